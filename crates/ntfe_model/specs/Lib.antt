@@ -1,0 +1,15 @@
+pub mod Lists
+pub mod Pairs
+pub mod Reflexive
+pub mod Points
+pub mod Shapes
+pub mod Charts
+pub mod Triangulations
+pub mod Words
+pub mod Choices
+pub mod Stars
+pub mod Certificates
+pub mod Solver
+pub mod Keys
+pub mod RunText
+pub mod Earlier
