@@ -5,7 +5,7 @@ ghost use Rattle.ntfe_nums.specs.Vectors.{vector, numbers};
 use std::marker::Model;
 
 /// A vector of four coordinates.
-#[derive(Clone, Copy, Drop)]
+#[derive(Clone, Copy, Drop, PartialEq, Eq)]
 pub struct Vec4(pub [i64; 4]);
 
 impl Model for Vec4 {
@@ -25,22 +25,18 @@ impl Model for Vec4 {
 }
 
 impl Vec4 {
+    /// The vector with these coordinates.
     pub fn new(x: [i64; 4]) -> Vec4
         ensures { result ≡ vector x }
     {
         Vec4(x)
     }
 
+    /// Lends the coordinates.
     pub fn coordinates(&self) -> &[i64; 4]
         ensures value { vector result.now ≡ self.now }
         ensures list { result.now ≡ numbers self.now }
     {
         &self.0
-    }
-
-    pub fn first(&self) -> i64
-        ensures { result ≡ self.now.x1 }
-    {
-        self.0[0]
     }
 }
