@@ -9,13 +9,22 @@ pub OnErr-always : {T E : Type 0} (r : Result T E) (P : Type 0) → P → OnErr 
 OnErr-always (Ok x) P p = tt
 OnErr-always (Err e) P p = p
 
--- some whole pieces, and then a part of the next
-pub prefix_next : (a b c : Option (List ℕ)) (xs ys zs : List ℕ) → Appends a b xs → AppendsPrefix b c ys → AppendsPrefix a c (xs ++ (ys ++ zs))
-prefix_next a b c xs ys zs p q = record {
+-- a whole text, and then a part of the next
+pub prefix_next : (a b c : Option (List ℕ)) (xs ys : List ℕ) → Appends a b xs → AppendsPrefix b c ys → AppendsPrefix a c (xs ++ ys)
+prefix_next a b c xs ys p q = record {
   front = xs ++ q.front;
-  rest = q.rest ++ zs;
-  whole = ap (λ l. xs ++ (l ++ zs)) q.whole ∙ ap (λ l. xs ++ l) (append_assoc q.front q.rest zs) ∙ sym (append_assoc xs q.front (q.rest ++ zs));
+  rest = q.rest;
+  whole = ap (λ l. xs ++ l) q.whole ∙ sym (append_assoc xs q.front q.rest);
   appends = Appends-trans a b c xs q.front p q.appends;
+}
+
+-- a part of a text is a part of a longer one
+pub prefix_more : (a b : Option (List ℕ)) (xs zs : List ℕ) → AppendsPrefix a b xs → AppendsPrefix a b (xs ++ zs)
+prefix_more a b xs zs q = record {
+  front = q.front;
+  rest = q.rest ++ zs;
+  whole = ap (λ l. l ++ zs) q.whole ∙ append_assoc q.front q.rest zs;
+  appends = q.appends;
 }
 
 -- some whole pieces alone

@@ -4,6 +4,7 @@
 mod edges;
 mod gate;
 mod line_fault;
+mod lines;
 mod memory_sink;
 mod memory_source;
 mod piece;
@@ -16,6 +17,7 @@ mod tests;
 pub use edges::{ReadEdge, WriteEdge};
 pub use gate::{Gate, OpenGate};
 pub use line_fault::LineFault;
+pub use lines::write_line;
 pub use memory_sink::MemorySink;
 pub use memory_source::MemorySource;
 pub use piece::write_piece;

@@ -39,11 +39,15 @@ pub record Form : Type 0 where
   pub stars : Bool
 
 abbrev pub push_line : Push → List ℕ
-push_line Up = codes "push up" ++ 10 ∷ []
-push_line Down = codes "push down" ++ 10 ∷ []
+push_line Up = codes "push up\n"
+push_line Down = codes "push down\n"
+
+-- the line that says that stars are written, where they are
+abbrev pub stars_line : Bool → List ℕ
+stars_line stars = cond stars (codes "stars\n") []
 
 abbrev pub head_text : VertexLists → Form → List ℕ
-head_text p form = codes "ntfe 1" ++ 10 ∷ [] ++ pair_lines p ++ push_line form.push ++ cond form.stars (codes "stars" ++ 10 ∷ []) []
+head_text p form = codes "ntfe 1\n" ++ (pair_lines p ++ (push_line form.push ++ stars_line form.stars))
 
 -- a choice with what its block shows
 pub record Block : Type 0 where
@@ -56,7 +60,7 @@ star_lines None = []
 star_lines (Some star) = number_line (codes "star") (length star ∷ []) ++ flat_map (number_line (codes "simplex")) star
 
 abbrev pub block_text : Block → List ℕ
-block_text b = number_line (codes "class") b.choice ++ signed_line (codes "heights") b.heights ++ star_lines b.star
+block_text b = number_line (codes "class") b.choice ++ (signed_line (codes "heights") b.heights ++ star_lines b.star)
 
 abbrev pub IsStarOf : Shape → Form → Block → Option (List (List ℕ)) → Type 0
 IsStarOf g form b None = form.stars ≡ false
@@ -100,6 +104,10 @@ text_without_limit p form kept bs = head_due p form kept ++ flat_map block_text 
 -- with the limit n, where there are at least n blocks, the kept ones counted too: no block is due where n are kept
 abbrev pub text_with_limit : VertexLists → Form → Kept → ℕ → List Block → List ℕ
 text_with_limit p form kept n bs = head_due p form kept ++ flat_map block_text (take (n - kept.blocks) bs) ++ limit_line (max kept.blocks n)
+
+-- the last line
+abbrev pub last_line : Bool → ℕ → List ℕ
+last_line limited c = cond limited (limit_line c) (end_line c)
 
 abbrev pub IsTextOf : VertexLists → Form → Kept → Option ℕ → List Block → List ℕ → Type 0
 IsTextOf p form kept None bs text = text ≡ text_without_limit p form kept bs

@@ -1,0 +1,8 @@
+use Rattle.std.proofs.Common.{◌≡◌, ◌++◌, take}
+use Rattle.std.specs.Prelude.{string_bytes, flat_map}
+use Rattle.std.specs.Fmt.{signed_decimal}
+use Rattle.ntfe_model.specs.RunText.{spaced}
+use Rattle.class_text.proofs.numbers.signed_text.Given as goal
+
+abbrev pub invariant-loop-n : goal.invariant-loop-n
+invariant-loop-n l = string_bytes l.text ≡ l.word ++ flat_map (λ n. spaced (signed_decimal n)) (take l.n-index l.numbers)

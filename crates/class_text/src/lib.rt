@@ -1,0 +1,14 @@
+//! The text of a run: its head, a block for each class, and its last line.
+#![tactic(auto)]
+
+mod block;
+mod form;
+mod head;
+mod lines;
+mod numbers;
+
+pub use block::{write_class, write_end};
+pub use form::TextForm;
+pub use head::{write_count, write_head, write_pair_lines};
+pub use lines::{Line, write_item, write_items};
+pub use numbers::{append_number, append_signed, numbers_text};

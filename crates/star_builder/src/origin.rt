@@ -1,0 +1,27 @@
+//! A height for the origin.
+ghost use Rattle.std.specs.Prelude.{◌≡◌, ◌<◌, ◌^◌, All, unsigned_abs};
+ghost use Rattle.ntfe_model.specs.Stars.{greatest_size, origin_height as height_of_origin};
+
+use ntfe_model::Heights;
+
+/// The greatest size of a height, 0 for none.
+fn greatest(heights: &[i64]) -> u64
+    requires { All (λ h. unsigned_abs h < 2 ^ 62) heights.now }
+    ensures value { result ≡ greatest_size heights.now }
+    ensures small { result < 2 ^ 62 }
+{
+    let mut most = 0u64;
+    for h in heights {
+        most = most.max(h.unsigned_abs());
+    }
+    most
+}
+
+/// A height at the origin that is low enough for a star: `-(1 + W (2^47 + 1))`, where W is the greatest size of a height.
+pub fn origin_height(heights: &Heights) -> i128
+    requires { All (λ h. unsigned_abs h < 2 ^ 62) heights.now }
+    ensures { result ≡ height_of_origin heights.now }
+{
+    let most = greatest(heights.0.as_slice());
+    -(1 + most as i128 * ((1 << 47) + 1))
+}
