@@ -11,4 +11,4 @@ pub use block::{write_class, write_end};
 pub use form::TextForm;
 pub use head::{write_count, write_head, write_pair_lines};
 pub use lines::{Line, write_item, write_items};
-pub use numbers::{append_number, append_signed, numbers_text};
+pub use numbers::{append_number, append_numbers, append_signed, numbers_text};

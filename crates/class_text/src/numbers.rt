@@ -1,5 +1,5 @@
 //! Lines of a word and numbers.
-ghost use Rattle.std.specs.Prelude.{◌≡◌, ◌++◌, IfOk, string_bytes, decimal, [], ◌∷◌};
+ghost use Rattle.std.specs.Prelude.{◌≡◌, ◌++◌, IfOk, string_bytes, decimal, flat_map, [], ◌∷◌};
 ghost use Rattle.std.specs.Fmt.{signed_decimal};
 ghost use Rattle.ntfe_model.specs.RunText.{vector_line, number_line, signed_line, spaced};
 
@@ -22,14 +22,22 @@ pub fn append_signed(text: &mut String, n: i64) -> Result<(), AllocError>
     write!(text, " {n}")
 }
 
+/// Appends numbers, one space before each.
+pub fn append_numbers(text: &mut String, numbers: &[u32]) -> Result<(), AllocError>
+    ensures { IfOk result (λ _. string_bytes text.new ≡ string_bytes text.old ++ flat_map (λ n. spaced (decimal n)) numbers.now) }
+{
+    for n in numbers {
+        append_number(text, u64::from(*n))?;
+    }
+    Ok(())
+}
+
 /// A word and numbers, one space before each, and a line feed.
 pub fn numbers_text(alloc: Global, word: &str, numbers: &[u32]) -> Result<String, AllocError>
     ensures { IfOk result (λ s. string_bytes s ≡ number_line word.now numbers.now) }
 {
     let mut text = String::from_str(alloc, word)?;
-    for n in numbers {
-        append_number(&mut text, u64::from(*n))?;
-    }
+    append_numbers(&mut text, numbers)?;
     text.push('\n')?;
     Ok(text)
 }

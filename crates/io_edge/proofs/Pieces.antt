@@ -1,5 +1,5 @@
 -- What pieces append, one after the other.
-use Rattle.std.proofs.Common.{ℕ, List, [], ◌++◌, refl, sym, ap, ◌∙◌, append_assoc, Result, Ok, Err, OnErr}
+use Rattle.std.proofs.Common.{ℕ, List, [], ◌++◌, refl, sym, ap, ◌∙◌, append_assoc, append-nil, Result, Ok, Err, OnErr}
 use Rattle.std.specs.Prelude.{Option}
 use Rattle.std.proofs.KnownBytes.{Appends-trans, Appends-nil}
 use Rattle.std.specs.Io.KnownBytes.{Appends}
@@ -34,3 +34,7 @@ prefix_whole a b xs zs p = record { front = xs; rest = zs; whole = refl; appends
 -- nothing
 pub prefix_none : (a : Option (List ℕ)) (zs : List ℕ) → AppendsPrefix a a zs
 prefix_none a zs = record { front = []; rest = zs; whole = refl; appends = Appends-nil a }
+
+-- all of the text
+pub prefix_all : (a b : Option (List ℕ)) (xs : List ℕ) → Appends a b xs → AppendsPrefix a b xs
+prefix_all a b xs p = record { front = xs; rest = []; whole = sym (append-nil xs); appends = p }

@@ -13,3 +13,4 @@ pub mod Solver
 pub mod Keys
 pub mod RunText
 pub mod Earlier
+pub mod FacesText
