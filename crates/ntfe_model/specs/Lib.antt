@@ -12,4 +12,5 @@ pub mod Certificates
 pub mod Solver
 pub mod Keys
 pub mod RunText
+pub mod PairText
 pub mod Earlier
