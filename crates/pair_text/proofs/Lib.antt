@@ -1,0 +1,6 @@
+pub mod Splitting
+pub mod Digits
+pub mod Caps
+pub mod Faults
+pub mod Pairs
+pub mod Unique
