@@ -4,3 +4,4 @@ pub mod Caps
 pub mod Faults
 pub mod Pairs
 pub mod Unique
+pub mod Canonical

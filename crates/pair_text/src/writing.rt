@@ -2,6 +2,7 @@
 ghost use Rattle.std.specs.Prelude.{◌≡◌, ◌++◌, [], ◌∷◌, IfOk, OnOk, OnErr, string_bytes, flat_map};
 ghost use Rattle.std.specs.Fmt.{signed_decimal};
 ghost use Rattle.ntfe_model.specs.RunText.{vector_line, list_lines, pair_lines, spaced};
+ghost use Rattle.ntfe_model.specs.PairText.{IsPairText};
 
 use ntfe_model::{Pair, Vec4};
 use std::alloc::{AllocError, Global};
@@ -11,6 +12,8 @@ use std::fmt::Write;
 pub fn write_pair(alloc: Global, pair: &Pair, out: &mut Vec<u8>) -> Result<(), AllocError>
     ensures ok { OnOk result (out.new.items ≡ out.old.items ++ pair_lines pair.now) }
     ensures err { OnErr result (out.new.items ≡ out.old.items) }
+    // What was appended is a text of this pair, and of no other.
+    ensures text { IsPairText (pair_lines pair.now) pair.now }
 {
     let mut text = String::new(alloc);
     append_list(alloc, &mut text, "vertices", pair.vertices())?;
@@ -60,7 +63,8 @@ fn append_four(
     append_spaced(alloc, text, b)?;
     append_spaced(alloc, text, c)?;
     append_spaced(alloc, text, d)?;
-    text.push('\n')
+    text.push('\n')?;
+    Ok(())
 }
 
 /// Appends a space and a number.
