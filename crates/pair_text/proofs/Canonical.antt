@@ -146,9 +146,9 @@ vector_read v before more s =
     let d4 = signed_decimal v.x4 in
     let content = content_more d1 (d2 ++ 32 ∷ (d3 ++ 32 ∷ d4)) c1 (content_more d2 (d3 ++ 32 ∷ d4) c2 (content_more d3 d4 c3 (content_clean d4 c4.above))) in
     let fields_are : fields (vector_content v) ≡ vector_fields v =
-        fields_more d1 (d2 ++ 32 ∷ (d3 ++ 32 ∷ d4)) c1
-        ∙ ap (λ (l : List (List ℕ)). d1 ∷ l)
-        (fields_more d2 (d3 ++ 32 ∷ d4) c2 ∙ ap (λ (l : List (List ℕ)). d2 ∷ l) (fields_more d3 d4 c3 ∙ ap (λ (l : List (List ℕ)). d3 ∷ l) (fields_last d4 c4))) in
+    fields_more d1 (d2 ++ 32 ∷ (d3 ++ 32 ∷ d4)) c1
+    ∙ ap (λ (l : List (List ℕ)). d1 ∷ l)
+    (fields_more d2 (d3 ++ 32 ∷ d4) c2 ∙ ap (λ (l : List (List ℕ)). d2 ∷ l) (fields_more d3 d4 c3 ∙ ap (λ (l : List (List ℕ)). d3 ∷ l) (fields_last d4 c4))) in
     ap (λ (t : List ℕ). unskipped before (lines t)) (vector_line_is v more)
     ∙ line_more before (vector_content v) more (vector_fields v) content fields_are (not_comment d1 (d2 ∷ d3 ∷ d4 ∷ []) c1)
 

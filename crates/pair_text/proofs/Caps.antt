@@ -58,25 +58,25 @@ vector-exact v s =
 pub vector-large : (v : Vector) → ¬ (IsSmall (capped_vector v)) → Any (λ z. 1023 < unsigned_abs z) (numbers v)
 vector-large v h =
     elim (cases_lt 1023 (unsigned_abs v.x1)) [
-    | inl l ↦ (0, v.x1, lit< tt, refl, l)
-    | inr s1 ↦
-        elim (cases_lt 1023 (unsigned_abs v.x2)) [
-        | inl l ↦ (1, v.x2, lit< tt, refl, l)
-        | inr s2 ↦
-            elim (cases_lt 1023 (unsigned_abs v.x3)) [
-            | inl l ↦ (2, v.x3, lit< tt, refl, l)
-            | inr s3 ↦
-                elim (cases_lt 1023 (unsigned_abs v.x4)) [
-                | inl l ↦ (3, v.x4, lit< tt, refl, l)
-                | inr s4 ↦
-                    let p1 = capped-small v.x1 s1 in
-                    let p2 = capped-small v.x2 s2 in
-                    let p3 = capped-small v.x3 s3 in
-                    let p4 = capped-small v.x4 s4 in
-                    absurd (h (record { low1 = p1.0; high1 = p1.1; low2 = p2.0; high2 = p2.1; low3 = p3.0; high3 = p3.1; low4 = p4.0; high4 = p4.1 }))
+      | inl l ↦ (0, v.x1, lit< tt, refl, l)
+      | inr s1 ↦
+          elim (cases_lt 1023 (unsigned_abs v.x2)) [
+            | inl l ↦ (1, v.x2, lit< tt, refl, l)
+            | inr s2 ↦
+                elim (cases_lt 1023 (unsigned_abs v.x3)) [
+                  | inl l ↦ (2, v.x3, lit< tt, refl, l)
+                  | inr s3 ↦
+                      elim (cases_lt 1023 (unsigned_abs v.x4)) [
+                        | inl l ↦ (3, v.x4, lit< tt, refl, l)
+                        | inr s4 ↦
+                            let p1 = capped-small v.x1 s1 in
+                            let p2 = capped-small v.x2 s2 in
+                            let p3 = capped-small v.x3 s3 in
+                            let p4 = capped-small v.x4 s4 in
+                            absurd (h (record { low1 = p1.0; high1 = p1.1; low2 = p2.0; high2 = p2.1; low3 = p3.0; high3 = p3.1; low4 = p4.0; high4 = p4.1 }))
+                      ]
                 ]
-            ]
-        ]
+          ]
     ]
 
 -- what the numbers of four fields are

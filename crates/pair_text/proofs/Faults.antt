@@ -61,7 +61,7 @@ vectors_lead word head count h low high good due r =
     let fewer : length vs < count = r.fewer in
     let n : count ≡ length vs + left = omega arith in
     let begun : IsBegun word vs left (head ∷ good) =
-        record { head = head; entries = good; lines_are = refl; count = subst (λ (k : ℕ). IsCountLine word k head) n h; at_least = omega arith; at_most = omega arith; vectors = r.are } in
+    record { head = head; entries = good; lines_are = refl; count = subst (λ (k : ℕ). IsCountLine word k head) n h; at_least = omega arith; at_most = omega arith; vectors = r.are } in
     let next : IsDueInList word (head ∷ good) four_numbers = (vs, left, omega arith, begun) in
     subst (λ (d : Due). IsDueInList word (head ∷ good) d) (sym r.is) next
 

@@ -12,8 +12,8 @@ use Rattle.ntfe_model.specs.PairText.{lines, fields, is_blank, is_filled, is_ski
 pub unwrap_or-position : {X : Type 0} (p : X → Bool) (xs : List X) → unwrap_or (position p xs) (length xs) ≡ position_or_len p xs
 unwrap_or-position p xs =
     elim (cases_Bool (ltb (position_or_len p xs) (length xs))) [
-    | inl e ↦ rw e refl
-    | inr e ↦ rw e (omega (arith, ltb-false _ _ e, prefix_len-le-length (λ x. not (p x)) xs))
+      | inl e ↦ rw e refl
+      | inr e ↦ rw e (omega (arith, ltb-false _ _ e, prefix_len-le-length (λ x. not (p x)) xs))
     ]
 
 pub place_is : {X : Type 0} (p : X → Bool) (xs : List X) (o : Option ℕ) (n : ℕ) → o ≡ position p xs → n ≡ unwrap_or o (length xs) → n ≡ position_or_len p xs
@@ -37,11 +37,11 @@ lines-first [] h = absurd (omega arith)
 lines-first (x ∷ []) h = elim (cases_Bool (is_feed x)) [ inl e ↦ rw e refl | inr e ↦ rw e refl ]
 lines-first (x ∷ y ∷ ys) h =
     elim (cases_Bool (is_feed x)) [
-    | inl e ↦ rw e refl
-    | inr e ↦
-        let n = position_or_len is_feed (y ∷ ys) in
-        rw e (ap (onto_first x) (lines-first (y ∷ ys) (omega arith)) ∙ ap (λ (front : List ℕ). front ∷ lines (drop (n + 1) (y ∷ ys))) (sym (take_first x n (y ∷ ys)))
-            ∙ ap (λ (back : List ℕ). take (1 + n) (x ∷ y ∷ ys) ∷ lines back) (sym (drop_first_more x n (y ∷ ys))))
+      | inl e ↦ rw e refl
+      | inr e ↦
+          let n = position_or_len is_feed (y ∷ ys) in
+          rw e (ap (onto_first x) (lines-first (y ∷ ys) (omega arith)) ∙ ap (λ (front : List ℕ). front ∷ lines (drop (n + 1) (y ∷ ys))) (sym (take_first x n (y ∷ ys)))
+          ∙ ap (λ (back : List ℕ). take (1 + n) (x ∷ y ∷ ys) ∷ lines back) (sym (drop_first_more x n (y ∷ ys))))
     ]
 
 -- what stands between elements that pass
@@ -56,12 +56,12 @@ pub parts-start : (p : ℕ → Bool) (xs : List ℕ) → parts p xs ≡ parts p 
 parts-start p [] = refl
 parts-start p (x ∷ xs) =
     elim (cases_Bool (p x)) [
-    | inl e ↦
-        let n = position_or_len (λ b. not (p b)) xs in
-        parts-skip p x xs e ∙ parts-start p xs ∙ rw e (ap (parts p) (sym (drop_first x n xs)))
-    | inr e ↦
-        let whole : x ∷ xs ≡ drop (position_or_len (λ b. not (p b)) (x ∷ xs)) (x ∷ xs) = rw e refl in
-        ap (parts p) whole
+      | inl e ↦
+          let n = position_or_len (λ b. not (p b)) xs in
+          parts-skip p x xs e ∙ parts-start p xs ∙ rw e (ap (parts p) (sym (drop_first x n xs)))
+      | inr e ↦
+          let whole : x ∷ xs ≡ drop (position_or_len (λ b. not (p b)) (x ∷ xs)) (x ∷ xs) = rw e refl in
+          ap (parts p) whole
     ]
 
 abbrev IsNoneBefore : (ℕ → Bool) → List ℕ → Type 0
@@ -72,10 +72,10 @@ pub parts-none : (p : ℕ → Bool) (xs : List ℕ) → IsNoneBefore p (drop (po
 parts-none p [] = λ h. refl
 parts-none p (x ∷ xs) =
     elim (cases_Bool (p x)) [
-    | inl e ↦
-        let n = position_or_len (λ b. not (p b)) xs in
-        rw e (subst (IsNoneBefore p) (sym (drop_first x n xs)) (parts-none p xs))
-    | inr e ↦ rw e (λ h. absurd (omega (arith, rw e at h)))
+      | inl e ↦
+          let n = position_or_len (λ b. not (p b)) xs in
+          rw e (subst (IsNoneBefore p) (sym (drop_first x n xs)) (parts-none p xs))
+      | inr e ↦ rw e (λ h. absurd (omega (arith, rw e at h)))
     ]
 
 is_filled-from : (xs : List ℕ) → 0 < length xs → is_filled xs ≡ true
@@ -91,7 +91,7 @@ parts-first_of p xs h l =
     let n = position_or_len p xs in
     let filled : is_filled (take n xs) ≡ true = is_filled-from (take n xs) (simp length-take (omega arith)) in
     let skip : parts p (drop n xs) ≡ parts p (drop (n + 1) xs) =
-        ap (parts p) (drop_more xs n 0 l) ∙ parts-skip p (get_or xs n 0) (drop (n + 1) xs) (passes_at_first p xs 0 l) in
+    ap (parts p) (drop_more xs n 0 l) ∙ parts-skip p (get_or xs n 0) (drop (n + 1) xs) (passes_at_first p xs 0 l) in
     ap (filter is_filled) (slice_split_first p xs 0 l) ∙ rw filled (ap (λ (more : List (List ℕ)). take n xs ∷ more) (sym skip))
 
 -- what stands before the first that passes is the first part
@@ -99,10 +99,10 @@ pub parts-first : (p : ℕ → Bool) (xs : List ℕ) → let n = position_or_len
 parts-first p xs h =
     let n = position_or_len p xs in
     elim (cases_lt n (length xs)) [
-    | inl l ↦ parts-first_of p xs h l
-    | inr l ↦
-        parts-first_whole p xs (omega (arith, prefix_len-le-length (λ x. not (p x)) xs)) l
-        ∙ ap (λ (front : List ℕ). front ∷ []) (sym (take_all n xs l)) ∙ ap (λ (back : List ℕ). take n xs ∷ parts p back) (sym (drop_all n xs l))
+      | inl l ↦ parts-first_of p xs h l
+      | inr l ↦
+          parts-first_whole p xs (omega (arith, prefix_len-le-length (λ x. not (p x)) xs)) l
+          ∙ ap (λ (front : List ℕ). front ∷ []) (sym (take_all n xs l)) ∙ ap (λ (back : List ℕ). take n xs ∷ parts p back) (sym (drop_all n xs l))
     ]
 
 -- ---- what the two functions over lines and fields answer

@@ -132,8 +132,8 @@ pair_follows p all good rest due g (in_none h) e = inl (h.is, pair_ends p h.pair
 pair_right : (p : VertexLists) (all good later : List Line) (line : Line) (due : Due) → ArePairLines p all → IsDue good due → all ≡ good ++ line ∷ later → IsRight due line
 pair_right p all good later line due g d e =
     elim (pair_follows p all good (line ∷ later) due g d e) [
-    | inl h ↦ absurd (cc h.1)
-    | inr f ↦ let same : f.line ≡ line = cc f.rest_is in subst (IsRight due) same f.right
+      | inl h ↦ absurd (cc h.1)
+      | inr f ↦ let same : f.line ≡ line = cc f.rest_is in subst (IsRight due) same f.right
     ]
 
 -- ---- a line with what is due has no fault
@@ -213,8 +213,8 @@ pair_never W never p all number g r = never r.due r.line (pair_right p all r.goo
 pair_never_ends : (p : VertexLists) (all : List Line) → ArePairLines p all → EndsEarly IsDue all → ⊥
 pair_never_ends p all g r =
     elim (pair_follows p all all [] r.due g r.next (sym (append-nil all))) [
-    | inl h ↦ r.more h.0
-    | inr f ↦ let e : [] ≡ f.line ∷ f.later = f.rest_is in absurd cc
+      | inl h ↦ r.more h.0
+      | inr f ↦ let e : [] ≡ f.line ∷ f.later = f.rest_is in absurd cc
     ]
 
 -- the lines of a pair have no fault

@@ -3,7 +3,6 @@ ghost use Rattle.std.specs.Prelude.{◌≡◌, ◌<◌, ◌≤◌, ◌^◌, List
 ghost use Rattle.std.specs.List.{AllZip};
 ghost use Rattle.ntfe_model.specs.Pairs.{VertexLists};
 ghost use Rattle.ntfe_model.specs.PairText.{IsPairText, fields, IsCountLine, IsVectorLine, AreListLines, IsDueInList, HasFields, count_of, four_numbers};
-
 ghost use Rattle.pair_text.specs.Cursors.{lines_left, AreFew, line_of, Takes};
 ghost use Rattle.pair_text.specs.Faults.{HasCause, IsCauseIn, IsFaultOf, IsDueInVectors};
 
@@ -53,11 +52,7 @@ fn read_list(alloc: Global, lines: &mut Lines<'_>, word: &[u8]) -> Result<Vec<Ve
 }
 
 /// Reads so many lines of four numbers.
-fn read_vectors(
-    alloc: Global,
-    lines: &mut Lines<'_>,
-    count: u8,
-) -> Result<Vec<Vec4>, TextFault>
+fn read_vectors(alloc: Global, lines: &mut Lines<'_>, count: u8) -> Result<Vec<Vec4>, TextFault>
     requires few { AreFew lines.old }
     ensures few { OnOk result (AreFew lines.new) }
     ensures ok { IfOk result (λ vs. Takes (λ taken. AllZip IsVectorLine taken vs.items) lines.old lines.new) }

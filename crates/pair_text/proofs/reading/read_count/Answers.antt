@@ -6,11 +6,13 @@ use Rattle.pair_text.proofs.reading.read_count.Goals as goal
 
 pub returns-then-not-is_small-clause-fault : goal.returns-then-not-is_small-clause-fault
 returns-then-not-is_small-clause-fault c =
-    let z = number-of (number c.in-Some.field.now) _ c.in-Some-number.ensures in
-    (refl, record {
-      ns = c.in-Some.field.now ∷ [];
-      zs = z.0 ∷ [];
-      has = (c.in-Some.ensures, refl);
-      are = ap (λ o. o ∷ []) z.1;
-      large = (0, z.0, lit< tt, refl, capped-large z.0 (λ s. false≢true (sym c.if-not-is_small.true ∙ c.is_small.ensures.1 (subst IsSmallNumber (sym (capped-back z.0 c.in-Some-number.count z.2 ∙ z.2)) s))));
-    })
+    let z = number-of (number c.in-Some.field.now) _ c.in-Some-number.ensures in (
+      refl,
+      record {
+        ns = c.in-Some.field.now ∷ [];
+        zs = z.0 ∷ [];
+        has = (c.in-Some.ensures, refl);
+        are = ap (λ o. o ∷ []) z.1;
+        large = (0, z.0, lit< tt, refl, capped-large z.0 (λ s. false≢true (sym c.if-not-is_small.true ∙ c.is_small.ensures.1 (subst IsSmallNumber (sym (capped-back z.0 c.in-Some-number.count z.2 ∙ z.2)) s))));
+      },
+    )

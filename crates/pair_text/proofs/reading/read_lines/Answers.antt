@@ -20,7 +20,7 @@ returns-in_err-dual-clause-fault c =
     let p = err_from_is_err_and c.from_residual-in_err-dual.result c.from_residual-in_err-dual.ensures.1 in
     let t = c.in_ok-vertices.ensures.ok in
     rw (p.1, p.2) (cause_behind (IsDueInList (codes "dual")) IsDue t.taken _ _ _ (sym c.new-lines.ensures.lines ∙ t.lines_are) (dual_lead c.in_ok-vertices.vertices.items t.taken t.is)
-        c.in_err-dual.ensures.fault)
+    c.in_err-dual.ensures.fault)
 
 pub new-requires : goal.new-requires
 new-requires c =
@@ -36,5 +36,5 @@ returns-in-Some-clause-fault c =
     let later = lines_left c.take_unskipped.new.self in
     line_cause IsDue (t.taken ++ u.taken) line later _ nothing (Long line.number)
     (sym c.new-lines.ensures.lines ∙ t.lines_are ∙ ap (λ (x : List Line). t.taken ++ x) (u.lines_are ∙ ap (λ (x : List Line). u.taken ++ x) c.in-Some.ensures.line)
-        ∙ sym (append_assoc t.taken u.taken (line ∷ later)))
+    ∙ sym (append_assoc t.taken u.taken (line ∷ later)))
     (nothing_due c.in_ok-vertices.vertices.items c.in_ok-dual.dual.items t.taken u.taken t.is u.is) (refl, refl)

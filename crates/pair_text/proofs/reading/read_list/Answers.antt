@@ -14,7 +14,7 @@ pub returns-in_err-count-clause-fault : goal.returns-in_err-count-clause-fault
 returns-in_err-count-clause-fault c =
     let p = err_from_is_err_and c.from_residual.result c.from_residual.ensures.1 in
     rw (p.1, p.2) (line_cause (IsDueInList c.args.word.now) [] (line_of c.in-Some.head) (lines_left c.take_unskipped.new.self) _ (count_of c.args.word.now) _ c.in-Some.ensures.line (refl, refl)
-        c.in_err-count.ensures.fault)
+    c.in_err-count.ensures.fault)
 
 pub returns-clause-ok : goal.returns-clause-ok
 returns-clause-ok c =
@@ -34,5 +34,5 @@ returns-clause-fault c =
     IfErr-weaker c.read_vectors.result (λ e. IsCauseIn (IsDueInVectors c.in_ok-count.count) (lines_left c.take_unskipped.new.self) e)
     (λ e. IsCauseIn (IsDueInList c.args.word.now) (lines_left c.args.lines.now) e)
     (λ e h. cause_behind (IsDueInVectors c.in_ok-count.count) (IsDueInList c.args.word.now) (head ∷ []) (lines_left c.take_unskipped.new.self) _ e c.in-Some.ensures.line
-        (vectors_lead c.args.word.now head c.in_ok-count.count c.in_ok-count.ensures.ok c.in_ok-count.ensures.at_least c.in_ok-count.ensures.at_most) h)
+    (vectors_lead c.args.word.now head c.in_ok-count.count c.in_ok-count.ensures.ok c.in_ok-count.ensures.at_least c.in_ok-count.ensures.at_most) h)
     c.read_vectors.ensures.fault

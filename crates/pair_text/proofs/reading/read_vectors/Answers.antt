@@ -13,7 +13,7 @@ returns-in_err-vector-clause-fault c =
     let t = c.loop.invariant.takes in
     let next : IsDueInVectors c.args.count t.taken four_numbers = record { vectors = c.loop.vectors.items; are = t.is; fewer = omega (arith, c.loop.invariant.count); is = refl } in
     rw (p.1, p.2) (line_cause (IsDueInVectors c.args.count) t.taken (line_of c.in-Some.line) (lines_left c.take_unskipped.new.self) _ four_numbers _
-        (t.lines_are ∙ ap (λ (x : List Line). t.taken ++ x) c.in-Some.ensures.line) next c.in_err-vector.ensures)
+    (t.lines_are ∙ ap (λ (x : List Line). t.taken ++ x) c.in-Some.ensures.line) next c.in_err-vector.ensures)
 
 pub loop-preserved : goal.loop-preserved
 loop-preserved c =

@@ -12,7 +12,7 @@ returns c =
     let next = λ (old : List ℕ) (z : ℤ). old ++ spaced (signed_decimal z) in
     appended _ _ _ _ _ _ _ _ _ _
     (c.in_ok-push_str.ensures.bytes
-        ∙ ap (λ (x : List ℕ). string_bytes c.args.text.now ++ x) (c.deref.ensures ∙ c.in_ok-first.ensures.ok ∙ ap signed_decimal (to_z-of_z w64 c.args.a c.ranges.a)))
+    ∙ ap (λ (x : List ℕ). string_bytes c.args.text.now ++ x) (c.deref.ensures ∙ c.in_ok-first.ensures.ok ∙ ap signed_decimal (to_z-of_z w64 c.args.a c.ranges.a)))
     (c.in_ok-append_spaced.ensures ∙ ap (next (string_bytes c.push_str.new.self)) (to_z-of_z w64 c.args.b c.ranges.b))
     (c.in_ok-append_spaced-2.ensures ∙ ap (next (string_bytes c.append_spaced.new.text)) (to_z-of_z w64 c.args.c c.ranges.c))
     (c.in_ok-append_spaced-3.ensures ∙ ap (next (string_bytes c.append_spaced-2.new.text)) (to_z-of_z w64 c.args.d c.ranges.d))
