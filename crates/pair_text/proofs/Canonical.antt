@@ -1,22 +1,22 @@
 -- The canonical lines of a pair are a text of it.
-use Rattle.std.proofs.Common.{◌≡◌, ◌≢◌, ℕ, zero, suc, ◌+◌, ◌-◌, ◌<◌, ◌≤◌, ◌^◌, Bool, true, false, not, ℤ, pos, negsuc, neg_ℤ, ◌≤ℤ◌, List, [], ◌∷◌, ◌++◌, length, get_or, map, filter, flat_map, Option, Some, None, option_map, refl, sym, ap, ◌∙◌, subst, append_assoc, arith, lit<, lit≤, All}
-use Rattle.std.specs.Prelude.{codes, decimal, unsigned_abs}
+use Rattle.std.proofs.Common.{◌≡◌, ◌≢◌, ℕ, zero, suc, ◌+◌, ◌-◌, ◌<◌, ◌≤◌, ◌^◌, true, false, not, ℤ, pos, negsuc, neg_ℤ, ◌≤ℤ◌, List, [], ◌∷◌, ◌++◌, length, get_or, filter, flat_map, Some, option_map, refl, sym, ap, ◌∙◌, append_assoc, arith, lit<, lit≤, All}
+use Rattle.std.specs.Prelude.{codes, decimal}
 use Rattle.std.specs.Fmt.{signed_decimal}
 use Rattle.std.specs.Char.{is_ascii_digit}
 use Rattle.std.specs.Str.{all_ascii_digits}
 use Rattle.std.specs.Str.Lines.{strip_carriage_return}
 use Rattle.std.specs.Str.Parse.{digits_value}
-use Rattle.std.specs.List.{AllZip, AllByRecursion, slice_split, onto_first}
+use Rattle.std.specs.List.{AllZip, AllByRecursion, onto_first}
 use Rattle.std.proofs.lemmas.Int.{ints}
-use Rattle.std.proofs.lemmas.Bool.{and_parts, and_from, ne_eqb, leb-true, or_left, or_right, or_from}
-use Rattle.std.proofs.lemmas.List.{append-nil, length-append}
+use Rattle.std.proofs.lemmas.Bool.{and_parts, ne_eqb, leb-true, or_from}
+use Rattle.std.proofs.lemmas.List.{append-nil}
 use Rattle.std.proofs.lemmas.List.Splits.{slice_split_none, slice_split_at}
 use Rattle.std.proofs.lemmas.Str.Parse.{IsNumeralModel, numerals_by_value, tells_all_ascii_digits}
 use Rattle.std.proofs.lemmas.Fmt.{digits_decimal, digits_value-decimal, decimal_nonempty}
-use Rattle.ntfe_nums.specs.Vectors.{Vector, numbers}
+use Rattle.ntfe_nums.specs.Vectors.{Vector}
 use Rattle.ntfe_model.specs.Pairs.{VertexLists, IsSmall, IsBoundedList, IsBounded}
-use Rattle.ntfe_model.specs.RunText.{number_line, vector_line, list_lines, pair_lines, spaced}
-use Rattle.ntfe_model.specs.PairText.{Line, lines, fields, is_blank, is_filled, is_skipped, unskipped, lines_of, magnitude, number, IsCountLine, IsVectorLine, AreListLines, ArePairLines, IsPairText}
+use Rattle.ntfe_model.specs.RunText.{vector_line, list_lines, pair_lines, spaced}
+use Rattle.ntfe_model.specs.PairText.{Line, lines, fields, is_blank, is_filled, is_skipped, unskipped, magnitude, number, IsCountLine, IsVectorLine, AreListLines, IsPairText}
 use Rattle.pair_text.proofs.Caps.{numbers-of}
 use Rattle.pair_text.proofs.Faults.{list_lines as list_lines_are}
 

@@ -1,5 +1,5 @@
 -- What a number that was cut tells of the number itself.
-use Rattle.std.proofs.Common.{◌≡◌, ℕ, ◌<◌, ◌≤◌, ◌^◌, min, ℤ, pos, negsuc, ◌≤ℤ◌, List, [], ◌∷◌, length, map, Option, Some, None, option_map, refl, sym, ap, ◌∙◌, inl, inr, arith, lit<, w64, to_z, of_z, FitsSigned}
+use Rattle.std.proofs.Common.{◌≡◌, ◌<◌, ◌≤◌, min, ℤ, pos, negsuc, ◌≤ℤ◌, [], ◌∷◌, map, Option, Some, None, option_map, refl, ap, ◌∙◌, inl, inr, arith, lit<, w64, to_z, of_z, FitsSigned}
 use Rattle.std.specs.Prelude.{unsigned_abs, Any}
 use Rattle.std.proofs.lemmas.Int.{ints, to_z-of_z, fits_signed_from_abs}
 use Rattle.std.proofs.lemmas.Bool.{cases_lt}

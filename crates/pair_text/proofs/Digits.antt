@@ -1,5 +1,5 @@
 -- Digits, read one after another.
-use Rattle.std.proofs.Common.{◌≡◌, ℕ, zero, suc, ◌+◌, ◌-◌, ◌*◌, ◌<◌, Bool, true, false, List, [], ◌∷◌, length, get_or, take, min, ◌&&◌, Option, None, option_map, refl, sym, ap, ◌∙◌, arith, add-one}
+use Rattle.std.proofs.Common.{◌≡◌, ℕ, zero, suc, ◌+◌, ◌-◌, ◌*◌, ◌<◌, true, false, leb, List, [], ◌∷◌, length, get_or, take, min, None, option_map, refl, arith, add-one}
 use Rattle.std.specs.Char.{is_ascii_digit, digit_value}
 use Rattle.std.specs.Str.{all_ascii_digits}
 use Rattle.std.specs.Str.Parse.{digits_value}
@@ -29,7 +29,7 @@ magnitude-fail f bs i h d = rw (and_right (is_filled bs) _ (digits-fail bs i h d
 
 digit_value-is : (c : ℕ) → is_ascii_digit c ≡ true → digit_value c ≡ c - 48
 digit_value-is c d =
-    let p = and_parts _ _ d in
+    let p = and_parts (leb 48 c) (leb c 57) d in
     omega (arith, digit_value_digit c (leb-true 48 c p.0, leb-true c 57 p.1))
 
 -- one digit more behind a size that is cut

@@ -1,9 +1,9 @@
 -- The fault of one line is the fault of a text, where the lines before it are good.
-use Rattle.std.proofs.Common.{◌≡◌, ℕ, ◌+◌, ◌-◌, ◌<◌, ◌≤◌, zero, suc, List, [], ◌∷◌, ◌++◌, length, refl, sym, ap, ◌∙◌, subst, append_assoc, Result, Ok, Err, IfOk, IfErr, All, arith}
+use Rattle.std.proofs.Common.{◌≡◌, ℕ, ◌+◌, ◌-◌, ◌<◌, ◌≤◌, zero, suc, List, [], ◌∷◌, ◌++◌, length, refl, sym, ap, ◌∙◌, subst, append_assoc, Result, Ok, Err, IfOk, All, arith}
 use Rattle.std.specs.List.{AllZip}
 use Rattle.ntfe_nums.specs.Vectors.{Vector}
 use Rattle.ntfe_model.specs.Pairs.{IsSmall, IsBoundedList}
-use Rattle.ntfe_model.specs.PairText.{Line, Due, four_numbers, IsCountLine, IsVectorLine, IsBegun, AreListLines, IsDueInList, IsFirstWrong, EndsEarly}
+use Rattle.ntfe_model.specs.PairText.{Line, Due, four_numbers, IsCountLine, IsVectorLine, IsBegun, AreListLines, IsDueInList, IsFirstWrong}
 use Rattle.pair_text.specs.declared.fault.TextFault.{TextFault}
 use Rattle.pair_text.specs.declared.fault.TextFault.TheVariants.{BadLine, BadNumber, TooLarge, Count, Short, Long, Memory}
 use Rattle.pair_text.specs.Faults.{IsCauseIn, IsFaultOf, IsDueInVectors}

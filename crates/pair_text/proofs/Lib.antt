@@ -5,3 +5,4 @@ pub mod Faults
 pub mod Pairs
 pub mod Unique
 pub mod Canonical
+pub mod Exact

@@ -1,9 +1,9 @@
 -- The lines of a pair, list by list.
-use Rattle.std.proofs.Common.{◌≡◌, List, [], ◌∷◌, ◌++◌, refl}
+use Rattle.std.proofs.Common.{List, [], ◌++◌, refl}
 use Rattle.std.specs.Prelude.{codes}
 use Rattle.ntfe_nums.specs.Vectors.{Vector}
-use Rattle.ntfe_model.specs.Pairs.{VertexLists, IsBounded}
-use Rattle.ntfe_model.specs.PairText.{Line, Due, nothing, AreListLines, ArePairLines, IsDueInList, IsDue, in_vertices, in_dual, in_none}
+use Rattle.ntfe_model.specs.Pairs.{IsBounded}
+use Rattle.ntfe_model.specs.PairText.{Line, nothing, AreListLines, ArePairLines, IsDueInList, IsDue, in_vertices, in_dual, in_none}
 use Rattle.pair_text.proofs.Faults.{Leads, list_bounded}
 
 pub vertices_lead : Leads (IsDueInList (codes "vertices")) IsDue []

@@ -1,5 +1,5 @@
 -- The first line of a text and the first field of a line, cut off.
-use Rattle.std.proofs.Common.{◌≡◌, ◌≢◌, ℕ, suc, subst, ◌+◌, ◌<◌, ◌≤◌, ◌==◌, Bool, true, false, cond, not, List, [], ◌∷◌, length, take, drop, get_or, ltb, filter, Option, Some, None, unwrap_or, refl, sym, ap, ◌∙◌, inl, inr, arith, one-add}
+use Rattle.std.proofs.Common.{◌≡◌, ◌≢◌, ℕ, suc, subst, ◌+◌, ◌<◌, ◌≤◌, ◌==◌, Bool, true, cond, not, List, [], ◌∷◌, length, take, drop, get_or, ltb, filter, Option, unwrap_or, refl, sym, ap, ◌∙◌, inl, inr, arith, one-add}
 use Rattle.std.specs.List.{position, position_or_len, slice_split, onto_first, before_first, after_first}
 use Rattle.std.proofs.lemmas.Bool.{cases_Bool, cases_lt, ltb-false, ne_eqb}
 use Rattle.std.proofs.lemmas.List.Sums.{prefix_len-le-length, fails_before_first, passes_at_first}

@@ -1,10 +1,9 @@
 -- The lines of a pair are the lines of no other pair, and have no fault.
-use Rattle.std.proofs.Common.{◌≡◌, ◌≢◌, ℕ, ◌+◌, ◌<◌, ◌≤◌, zero, suc, ◌⊎◌, ℤ, pos, negsuc, ◌≤ℤ◌, List, [], ◌∷◌, ◌++◌, length, map, get_or, Option, Some, None, refl, sym, ap, ◌∙◌, subst, append_assoc, inl, inr, ⊎_elim, Result, Ok, Err, IfOk, IfErr, MatchResult, arith}
-use Rattle.std.specs.Prelude.{codes, unsigned_abs, Any}
+use Rattle.std.proofs.Common.{◌≡◌, ℕ, ◌+◌, ◌<◌, ◌≤◌, zero, suc, ◌⊎◌, ℤ, pos, negsuc, ◌≤ℤ◌, List, [], ◌∷◌, ◌++◌, length, map, get_or, Option, Some, None, refl, sym, ap, ◌∙◌, subst, append_assoc, inl, inr, Result, Ok, Err, IfOk, IfErr, MatchResult, arith}
+use Rattle.std.specs.Prelude.{codes, unsigned_abs}
 use Rattle.std.specs.List.{AllZip}
 use Rattle.std.proofs.lemmas.Int.{ints}
 use Rattle.std.proofs.lemmas.List.{append-nil, length-map}
-use Rattle.std.proofs.lemmas.Slice.Zip.{AllZip-long}
 use Rattle.ntfe_nums.specs.Vectors.{Vector, numbers}
 use Rattle.ntfe_model.specs.Pairs.{VertexLists, IsSmall}
 use Rattle.ntfe_model.specs.PairText.{Line, Due, count_of, four_numbers, nothing, number, AreNumbers, IsCountLine, IsVectorLine, IsBegun, AreListLines, ArePairLines, IsDueInList, IsDue, in_vertices, in_dual, in_none, HasFields, IsBadLine, IsBadNumber, IsTooLarge, IsBadCount, IsLong, IsFirstWrong, EndsEarly}
@@ -21,7 +20,7 @@ count_fixed word m n line g h =
     let e : Some (pos m) ≡ Some (pos n) = sym g.number_is ∙ ap number f ∙ h.number_is in
     cc
 
-numbers_fixed : (zs ys : List ℤ) → map Some zs ≡ map Some ys → zs ≡ ys
+pub numbers_fixed : (zs ys : List ℤ) → map Some zs ≡ map Some ys → zs ≡ ys
 numbers_fixed [] [] e = refl
 numbers_fixed [] (y ∷ ys) e = absurd cc
 numbers_fixed (z ∷ zs) [] e = absurd cc
@@ -54,17 +53,17 @@ entries_fixed (x ∷ xs) (y ∷ ys) a b (u ∷ us) (v ∷ vs) g h l e =
     (cc (r.0, first), r.1)
 
 -- a line with what is due
-abbrev IsRight : Due → Line → Type 0
+abbrev pub IsRight : Due → Line → Type 0
 IsRight (count_of word) line = (n : ℕ) × (5 ≤ n) × (n ≤ 64) × IsCountLine word n line
 IsRight four_numbers line = (v : Vector) × IsVectorLine line v
 IsRight nothing line = ⊥
 
 -- some line follows, and has what is due
-record Follows (due : Due) (rest : List Line) : Type 0 where
-  line : Line
-  later : List Line
-  rest_is : rest ≡ line ∷ later
-  right : IsRight due line
+pub record Follows (due : Due) (rest : List Line) : Type 0 where
+  pub line : Line
+  pub later : List Line
+  pub rest_is : rest ≡ line ∷ later
+  pub right : IsRight due line
 
 -- behind fewer lines of vectors comes another one
 entry_follows : (xs ys a b : List Line) (us vs : List Vector) → AllZip IsVectorLine xs us → AllZip IsVectorLine ys vs → length vs < length us → xs ++ a ≡ ys ++ b → Follows four_numbers b
@@ -119,7 +118,7 @@ pair_ends p q all good rest g h e =
     s.1
 
 -- either all lines are good and nothing is due, or a line with what is due follows
-pair_follows : (p : VertexLists) (all good rest : List Line) (due : Due) → ArePairLines p all → IsDue good due → all ≡ good ++ rest → ((due ≡ nothing) × ([] ≡ rest)) ⊎ Follows due rest
+pub pair_follows : (p : VertexLists) (all good rest : List Line) (due : Due) → ArePairLines p all → IsDue good due → all ≡ good ++ rest → ((due ≡ nothing) × ([] ≡ rest)) ⊎ Follows due rest
 pair_follows p all good rest due g (in_vertices h) e =
     inr (list_follows (codes "vertices") p.vertices g.first g.second good rest due g.vertices h (sym g.lines_are ∙ e))
 pair_follows p all good rest due g (in_dual h) e =
@@ -163,7 +162,7 @@ right_fields (count_of word) line ns (n, low, high, h) f =
 right_fields four_numbers line ns (v, h) f = (numbers v, ap (map number) (sym f.0) ∙ h.numbers_are, vector_small v h.small)
 right_fields nothing line ns h f = absurd h
 
-none_bad : (ns : List (List ℕ)) (zs : List ℤ) (k : ℕ) (x : List ℕ) → AreNumbers ns zs → k < length ns → get_or ns k x ≡ x → number x ≡ None → ⊥
+pub none_bad : (ns : List (List ℕ)) (zs : List ℤ) (k : ℕ) (x : List ℕ) → AreNumbers ns zs → k < length ns → get_or ns k x ≡ x → number x ≡ None → ⊥
 none_bad [] zs k x e l g h = absurd (omega arith)
 none_bad (n ∷ ns) [] k x e l g h = absurd cc
 none_bad (n ∷ ns) (z ∷ zs) zero x e l g h =
@@ -172,20 +171,20 @@ none_bad (n ∷ ns) (z ∷ zs) zero x e l g h =
     absurd cc
 none_bad (n ∷ ns) (z ∷ zs) (suc k) x e l g h = (let t : AreNumbers ns zs = cc in none_bad ns zs k x t (omega arith) g h)
 
-abbrev NeverWrong : (Due → List (List ℕ) → Type 0) → Type 0
+abbrev pub NeverWrong : (Due → List (List ℕ) → Type 0) → Type 0
 NeverWrong W = (due : Due) (line : Line) → IsRight due line → W due line.fields → ⊥
 
-never_bad : NeverWrong IsBadLine
+pub never_bad : NeverWrong IsBadLine
 never_bad (count_of word) line (n, low, high, h) w = w.1 (h.field ∷ []) (h.fields_are, refl)
 never_bad four_numbers line (v, h) w = w.1 line.fields (refl, sym (length-map line.fields number) ∙ ap length h.numbers_are)
 never_bad nothing line h w = h
 
-never_none : NeverWrong IsBadNumber
+pub never_none : NeverWrong IsBadNumber
 never_none due line h w =
     let r = right_fields due line w.ns h w.has in
     none_bad w.ns r.0 w.bad.0 w.bad.1 r.1 w.bad.2 w.bad.3 w.bad.4
 
-never_large : NeverWrong IsTooLarge
+pub never_large : NeverWrong IsTooLarge
 never_large due line h w =
     let r = right_fields due line w.ns h w.has in
     let small : AreSmall w.zs = subst AreSmall (numbers_fixed r.0 w.zs (sym r.1 ∙ w.are)) r.2 in
@@ -193,7 +192,7 @@ never_large due line h w =
     let l : 1023 < unsigned_abs w.large.1 = w.large.4 in
     omega arith
 
-never_out : NeverWrong IsBadCount
+pub never_out : NeverWrong IsBadCount
 never_out due line h w =
     let r : IsRight (count_of w.word) line = subst (λ (d : Due). IsRight d line) w.due_is h in
     let c = r.3 in
@@ -204,7 +203,7 @@ never_out due line h w =
     let high : r.0 ≤ 64 = r.2 in
     w.range (subst (λ (z : ℤ). (pos 5 ≤ℤ z) × (z ≤ℤ pos 64)) n (omega (arith, ints), omega (arith, ints)))
 
-never_long : NeverWrong IsLong
+pub never_long : NeverWrong IsLong
 never_long due line h w = let r : IsRight nothing line = subst (λ (d : Due). IsRight d line) w h in r
 
 pair_never : (W : Due → List (List ℕ) → Type 0) → NeverWrong W → (p : VertexLists) (all : List Line) (number : ℕ) → ArePairLines p all → IsFirstWrong IsDue W all number → ⊥

@@ -1,9 +1,10 @@
 //! Pair text is read.
-ghost use Rattle.std.specs.Prelude.{◌≡◌, ◌<◌, ◌≤◌, ◌^◌, List, ℕ, [], ◌∷◌, length, IfOk, IfErr, MatchOption, MatchResult, OnOk};
+ghost use Rattle.std.specs.Prelude.{◌≡◌, ◌≢◌, ◌⊎◌, ◌<◌, ◌≤◌, ◌^◌, List, ℕ, [], ◌∷◌, length, IfOk, IfErr, MatchOption, MatchResult, OnOk};
 ghost use Rattle.std.specs.List.{AllZip};
 ghost use Rattle.ntfe_model.specs.Pairs.{VertexLists};
 ghost use Rattle.ntfe_model.specs.PairText.{IsPairText, fields, IsCountLine, IsVectorLine, AreListLines, IsDueInList, HasFields, count_of, four_numbers};
 ghost use Rattle.pair_text.specs.Cursors.{lines_left, AreFew, line_of, Takes};
+ghost use Rattle.pair_text.specs.declared.fault.TextFault.{TextFault};
 ghost use Rattle.pair_text.specs.Faults.{HasCause, IsCauseIn, IsFaultOf, IsDueInVectors};
 
 use crate::fault::TextFault;
@@ -12,12 +13,15 @@ use crate::number::{are_small, four_numbers, is_small, number};
 use ntfe_model::{Pair, Vec4};
 use std::alloc::Global;
 
-/// Reads pair text. The fault is the first one in order of lines.
+/// Reads pair text, of at most 4,294,967,295 bytes: `vertices` and a count, so many lines of four numbers,
+/// `dual` and a count, so many lines of four numbers. Counts are from 5 to 64, and sizes at most 1,023.
+/// Any other text has one fault, the first one in order of lines. Its line is counted from 1, skipped lines too.
 pub fn read_pair(alloc: Global, bytes: &[u8]) -> Result<Pair, TextFault>
     requires { length bytes.now < 2 ^ 32 }
     ensures ok { IfOk result (λ p. IsPairText bytes.now p) }
     ensures only { (p : VertexLists) → IsPairText bytes.now p → MatchResult result (λ q. q ≡ p) (λ e. e ≡ TextFault.Memory) }
     ensures fault { IfErr result (HasCause bytes.now) }
+    ensures exact { (fault : TextFault) → fault ≢ TextFault.Memory → HasCause bytes.now fault → MatchResult result (λ _. ⊥) (λ e. (e ≡ fault) ⊎ (e ≡ TextFault.Memory)) }
 {
     read_lines(alloc, bytes)
 }

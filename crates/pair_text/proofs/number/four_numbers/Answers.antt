@@ -1,4 +1,4 @@
-use Rattle.std.proofs.Common.{◌≡◌, ℕ, lit<, refl, ◌∙◌}
+use Rattle.std.proofs.Common.{lit<, refl, ◌∙◌}
 use Rattle.ntfe_nums.specs.Vectors.{Vector}
 use Rattle.ntfe_model.specs.PairText.{number}
 use Rattle.pair_text.specs.Caps.{capped_vector}

@@ -1,4 +1,4 @@
-use Rattle.std.proofs.Common.{◌≡◌, ℕ, ◌+◌, ◌*◌, min, sym, ap, ◌∙◌}
+use Rattle.std.proofs.Common.{◌+◌, ◌*◌, min, sym, ap, ◌∙◌}
 use Rattle.pair_text.proofs.Digits.{digits-more, magnitude-fail, size-more}
 use Rattle.pair_text.proofs.number.magnitude.Goals as goal
 

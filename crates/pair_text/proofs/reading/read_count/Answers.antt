@@ -1,4 +1,4 @@
-use Rattle.std.proofs.Common.{◌≡◌, ℕ, ℤ, [], ◌∷◌, Some, refl, sym, ap, ◌∙◌, subst, lit<}
+use Rattle.std.proofs.Common.{[], ◌∷◌, refl, sym, ap, ◌∙◌, subst, lit<}
 use Rattle.std.proofs.lemmas.Bool.{false≢true}
 use Rattle.ntfe_model.specs.PairText.{number}
 use Rattle.pair_text.proofs.Caps.{IsSmallNumber, number-of, capped-back, capped-large}

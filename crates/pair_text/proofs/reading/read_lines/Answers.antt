@@ -1,13 +1,11 @@
-use Rattle.std.proofs.Common.{◌≡◌, List, [], ◌∷◌, ◌++◌, refl, sym, ap, ◌∙◌, append_assoc}
+use Rattle.std.proofs.Common.{List, [], ◌∷◌, ◌++◌, refl, sym, ap, ◌∙◌, append_assoc}
 use Rattle.std.specs.Prelude.{codes}
 use Rattle.std.proofs.lemmas.Result.{err_from_is_err_and}
-use Rattle.std.proofs.lemmas.List.{append-nil}
-use Rattle.ntfe_model.specs.Pairs.{IsBounded}
 use Rattle.ntfe_model.specs.PairText.{Line, nothing, IsDueInList, IsDue}
 use Rattle.pair_text.specs.declared.fault.TextFault.TheVariants.{Long}
 use Rattle.pair_text.specs.Cursors.{line_of, lines_left}
 use Rattle.pair_text.proofs.Faults.{line_cause, cause_behind}
-use Rattle.pair_text.proofs.Pairs.{vertices_lead, dual_lead, pair_lines_are, nothing_due, pair_bounded}
+use Rattle.pair_text.proofs.Pairs.{vertices_lead, dual_lead, nothing_due, pair_bounded}
 use Rattle.pair_text.proofs.reading.read_lines.Goals as goal
 
 pub returns-in_err-vertices-clause-fault : goal.returns-in_err-vertices-clause-fault

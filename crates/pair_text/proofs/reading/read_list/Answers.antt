@@ -1,7 +1,7 @@
-use Rattle.std.proofs.Common.{◌≡◌, ◌≤◌, List, [], ◌∷◌, ◌++◌, length, refl, sym, ap, ◌∙◌}
+use Rattle.std.proofs.Common.{◌≡◌, List, [], ◌∷◌, length, refl, ap, ◌∙◌}
 use Rattle.std.specs.List.{AllZip}
 use Rattle.std.proofs.lemmas.Result.{err_from_is_err_and, IfErr-weaker}
-use Rattle.ntfe_model.specs.PairText.{Line, Due, count_of, IsVectorLine, AreListLines, IsDueInList}
+use Rattle.ntfe_model.specs.PairText.{Line, count_of, IsVectorLine, AreListLines, IsDueInList}
 use Rattle.pair_text.specs.Cursors.{line_of, lines_left, Takes}
 use Rattle.pair_text.specs.Faults.{IsCauseIn, IsDueInVectors}
 use Rattle.pair_text.proofs.Faults.{line_cause, cause_behind, vectors_lead, list_lines, both_ok}

@@ -1,8 +1,7 @@
-use Rattle.std.proofs.Common.{◌≡◌, ℕ, not, drop, take, ap, ◌∙◌, sym, eqb-true}
-use Rattle.std.specs.List.{position_or_len}
+use Rattle.std.proofs.Common.{not, drop, take, ap, ◌∙◌, sym, eqb-true}
 use Rattle.std.proofs.lemmas.Bool.{eqb-false}
 use Rattle.ntfe_model.specs.PairText.{is_blank}
-use Rattle.pair_text.proofs.Splitting.{place_is, field_start, no_field, first_field}
+use Rattle.pair_text.proofs.Splitting.{place_is, no_field, first_field}
 use Rattle.pair_text.proofs.line.Fields.take_field.Goals as goal
 
 pub returns-then-is_empty : goal.returns-then-is_empty

@@ -1,4 +1,4 @@
-use Rattle.std.proofs.Common.{◌≡◌, ℕ, List, length}
+use Rattle.std.proofs.Common.{◌≡◌, length}
 use Rattle.pair_text.specs.Cursors.{lines_left, AreFew}
 use Rattle.pair_text.proofs.line.Lines.take_unskipped.Given as goal
 
