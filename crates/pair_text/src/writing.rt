@@ -12,7 +12,7 @@ use std::fmt::Write;
 pub fn write_pair(alloc: Global, pair: &Pair, out: &mut Vec<u8>) -> Result<(), AllocError>
     ensures ok { OnOk result (out.new.items ≡ out.old.items ++ pair_lines pair.now) }
     ensures err { OnErr result (out.new.items ≡ out.old.items) }
-    // What was appended is a text of this pair, and of no other.
+    // The appended lines are a text of the pair, so `read_pair` gives the pair again.
     ensures text { IsPairText (pair_lines pair.now) pair.now }
 {
     let mut text = String::new(alloc);
