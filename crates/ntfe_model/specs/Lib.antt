@@ -12,5 +12,6 @@ pub mod Certificates
 pub mod Solver
 pub mod Keys
 pub mod RunText
+pub mod PairText
 pub mod Earlier
 pub mod FacesText
