@@ -39,6 +39,7 @@ pub fn tight_table(vertices: &[Vec4], dual: &[Vec4]) -> [u64; 64]
 }
 
 /// Whether some dual vertex is tight on the vertices at four places.
+#[inline(always)]
 pub fn have_facet(
     vertices: &[Vec4],
     dual: &[Vec4],

@@ -9,6 +9,8 @@ mod incidence;
 mod planes;
 mod products;
 mod repeats;
+#[cfg(test)]
+mod tests;
 mod tight;
 
 pub use causes::check;

@@ -9,6 +9,7 @@ ghost use Rattle.reflexive_pair.specs.Sides.{NoneAbove, NoneBelow};
 use ntfe_model::Vec4;
 
 /// The vector from one point to another.
+#[inline(always)]
 fn edge(from: &Vec4, to: &Vec4) -> [i64; 4]
     requires first { IsSmall from.now }
     requires second { IsSmall to.now }
@@ -21,6 +22,7 @@ fn edge(from: &Vec4, to: &Vec4) -> [i64; 4]
 }
 
 /// The determinant of three columns of three rows.
+#[inline(always)]
 fn minor(u: &[i64; 4], v: &[i64; 4], w: &[i64; 4], i: usize, j: usize, k: usize) -> i64
     requires first { AreWithin (2 ^ 11) u.now }
     requires second { AreWithin (2 ^ 11) v.now }
@@ -36,6 +38,7 @@ fn minor(u: &[i64; 4], v: &[i64; 4], w: &[i64; 4], i: usize, j: usize, k: usize)
 }
 
 /// The normal of the hyperplane through four points, which is 0 where they are affinely dependent.
+#[inline(always)]
 fn normal_of(a: &Vec4, b: &Vec4, c: &Vec4, d: &Vec4) -> [i64; 4]
     requires first { IsSmall a.now }
     requires second { IsSmall b.now }
@@ -55,6 +58,7 @@ fn normal_of(a: &Vec4, b: &Vec4, c: &Vec4, d: &Vec4) -> [i64; 4]
 }
 
 /// The scalar product of a normal and a point.
+#[inline(always)]
 fn height(n: &[i64; 4], x: &Vec4) -> i64
     requires large { AreWithin (2 ^ 36) n.now }
     requires small { IsSmall x.now }
@@ -65,6 +69,7 @@ fn height(n: &[i64; 4], x: &Vec4) -> i64
 }
 
 /// Whether x is higher than a along the normal.
+#[inline(always)]
 fn is_above(n: &[i64; 4], a: &Vec4, x: &Vec4) -> bool
     requires large { AreWithin (2 ^ 36) n.now }
     requires first { IsSmall a.now }
