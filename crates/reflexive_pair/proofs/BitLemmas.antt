@@ -10,12 +10,6 @@ use Rattle.ntfe_nums.specs.Vectors.{Vector, origin}
 use Rattle.ntfe_model.specs.Reflexive.{at, IsTight, HasFacet}
 use Rattle.reflexive_pair.specs.Incidence.{AreTightBits}
 
-pub bits_none : (v : Vector) (ms : List Vector) → AreTightBits v ms 0 0
-bits_none v ms = record {
-  sound = λ k e. absurd (omega (arith, bit_at-zero k));
-  complete = λ k lt t. absurd (omega arith);
-}
-
 module _ (v : Vector) (ms : List Vector) (n bits : ℕ) (h : AreTightBits v ms n bits) where
   pub bits_with : n < 64 → IsTight (at ms n) v → AreTightBits v ms (n + 1) (bit_or bits (1 * 2 ^ n % 2 ^ 64))
   bits_with few tight = record {

@@ -9,7 +9,7 @@ use Rattle.ntfe_nums.specs.Vectors.{Vector, origin, dot}
 use Rattle.ntfe_model.specs.Pairs.{VertexLists, entry}
 use Rattle.ntfe_model.specs.Reflexive.{AreRising, HasNoRepeat, IsCovered, IsRepeated, HasLowProduct, IsTightOnNoFour, IsOtherFacet, IsReflexive}
 use Rattle.reflexive_pair.specs.Causes.{HasFault}
-use Rattle.reflexive_pair.specs.Ruled.{HasNoLowProduct, AreTightOnFour}
+use Rattle.reflexive_pair.specs.RuledOut.{HasNoLowProduct, AreTightOnFour}
 use Rattle.reflexive_pair.specs.declared.fault.PairFault.{PairFault}
 use Rattle.reflexive_pair.specs.declared.fault.PairFault.TheVariants.{Repeated, Below, NotFacet, NotVertex, OtherFacet}
 
@@ -27,8 +27,8 @@ no_low p i j r h =
     let f = r.facet in
     not_low _ (h (entry p.dual j) (entry p.vertices i) (Contains-get_or p.dual (j - 1) origin (omega arith)) (Contains-get_or p.vertices (i - 1) origin (omega arith))) r.under
 
-no_loose : (ms vs : List Vector) (i : ℕ) → IsTightOnNoFour ms vs i → ¬ (AreTightOnFour ms vs)
-no_loose ms vs i r h = let n = r.number in r.loose (h (entry ms i) (Contains-get_or ms (i - 1) origin (omega arith)))
+no_tight_on_no_four : (ms vs : List Vector) (i : ℕ) → IsTightOnNoFour ms vs i → ¬ (AreTightOnFour ms vs)
+no_tight_on_no_four ms vs i r h = let n = r.number in r.loose (h (entry ms i) (Contains-get_or ms (i - 1) origin (omega arith)))
 
 no_other : (p : VertexLists) (i j k l : ℕ) → IsOtherFacet p i j k l → ¬ ((a b c d : ℕ) → AreRising a b c d (length p.vertices) → IsCovered p a b c d)
 no_other p i j k l r h =
@@ -39,8 +39,8 @@ pub fault_refutes : (p : VertexLists) (f : PairFault) → HasFault p f → ¬ (I
 fault_refutes p (Repeated false i j) h r = no_repeat p.vertices i j h.holds r.distinct_vertices
 fault_refutes p (Repeated true i j) h r = no_repeat p.dual i j h.1.holds r.distinct_dual
 fault_refutes p (Below vertex facet product) h r = no_low p vertex facet h.1.holds r.within
-fault_refutes p (NotFacet facet) h r = no_loose p.dual p.vertices facet h.2.holds r.facets
-fault_refutes p (NotVertex vertex) h r = no_loose p.vertices p.dual vertex h.3.holds r.corners
+fault_refutes p (NotFacet facet) h r = no_tight_on_no_four p.dual p.vertices facet h.2.holds r.facets
+fault_refutes p (NotVertex vertex) h r = no_tight_on_no_four p.vertices p.dual vertex h.3.holds r.corners
 fault_refutes p (OtherFacet i j k l) h r = no_other p i j k l h.4.holds r.closed
 
 -- ---- a cause is determined
@@ -92,19 +92,19 @@ fault_fixed p (NotFacet af) (Repeated false bi bj) h g = absurd (no_repeat p.ver
 fault_fixed p (NotFacet af) (Repeated true bi bj) h g = absurd (no_repeat p.dual bi bj g.1.holds h.0.1)
 fault_fixed p (NotFacet af) (Below bv bf bz) h g = absurd (no_low p bv bf g.1.holds h.1)
 fault_fixed p (NotFacet af) (NotFacet bf) h g = ap NotFacet (least_fixed (IsTightOnNoFour p.dual p.vertices) af bf h.2 g.2)
-fault_fixed p (NotFacet af) (NotVertex bv) h g = absurd (no_loose p.dual p.vertices af h.2.holds g.2)
-fault_fixed p (NotFacet af) (OtherFacet bi bj bk bl) h g = absurd (no_loose p.dual p.vertices af h.2.holds g.2)
+fault_fixed p (NotFacet af) (NotVertex bv) h g = absurd (no_tight_on_no_four p.dual p.vertices af h.2.holds g.2)
+fault_fixed p (NotFacet af) (OtherFacet bi bj bk bl) h g = absurd (no_tight_on_no_four p.dual p.vertices af h.2.holds g.2)
 fault_fixed p (NotVertex av) (Repeated false bi bj) h g = absurd (no_repeat p.vertices bi bj g.holds h.0.0)
 fault_fixed p (NotVertex av) (Repeated true bi bj) h g = absurd (no_repeat p.dual bi bj g.1.holds h.0.1)
 fault_fixed p (NotVertex av) (Below bv bf bz) h g = absurd (no_low p bv bf g.1.holds h.1)
-fault_fixed p (NotVertex av) (NotFacet bf) h g = absurd (no_loose p.dual p.vertices bf g.2.holds h.2)
+fault_fixed p (NotVertex av) (NotFacet bf) h g = absurd (no_tight_on_no_four p.dual p.vertices bf g.2.holds h.2)
 fault_fixed p (NotVertex av) (NotVertex bv) h g = ap NotVertex (least_fixed (IsTightOnNoFour p.vertices p.dual) av bv h.3 g.3)
-fault_fixed p (NotVertex av) (OtherFacet bi bj bk bl) h g = absurd (no_loose p.vertices p.dual av h.3.holds g.3)
+fault_fixed p (NotVertex av) (OtherFacet bi bj bk bl) h g = absurd (no_tight_on_no_four p.vertices p.dual av h.3.holds g.3)
 fault_fixed p (OtherFacet ai aj ak al) (Repeated false bi bj) h g = absurd (no_repeat p.vertices bi bj g.holds h.0.0)
 fault_fixed p (OtherFacet ai aj ak al) (Repeated true bi bj) h g = absurd (no_repeat p.dual bi bj g.1.holds h.0.1)
 fault_fixed p (OtherFacet ai aj ak al) (Below bv bf bz) h g = absurd (no_low p bv bf g.1.holds h.1)
-fault_fixed p (OtherFacet ai aj ak al) (NotFacet bf) h g = absurd (no_loose p.dual p.vertices bf g.2.holds h.2)
-fault_fixed p (OtherFacet ai aj ak al) (NotVertex bv) h g = absurd (no_loose p.vertices p.dual bv g.3.holds h.3)
+fault_fixed p (OtherFacet ai aj ak al) (NotFacet bf) h g = absurd (no_tight_on_no_four p.dual p.vertices bf g.2.holds h.2)
+fault_fixed p (OtherFacet ai aj ak al) (NotVertex bv) h g = absurd (no_tight_on_no_four p.vertices p.dual bv g.3.holds h.3)
 fault_fixed p (OtherFacet ai aj ak al) (OtherFacet bi bj bk bl) h g = (let e = least4_fixed (IsOtherFacet p) ai aj ak al bi bj bk bl h.4 g.4 in λ t. OtherFacet (e.0 t) (e.1 t) (e.2 t) (e.3 t))
 
 -- ---- what the answer for the lists says of the pair

@@ -4,10 +4,10 @@ use Rattle.std.proofs.lemmas.Int.{ints}
 use Rattle.std.proofs.lemmas.List.{get_or_default}
 use Rattle.std.specs.Prelude.{Contains}
 use Rattle.ntfe_nums.specs.Vectors.{Vector, dot, origin}
-use Rattle.ntfe_model.specs.Lists.{IsLeast, IsLeast2}
+use Rattle.ntfe_model.specs.Lists.{IsLeast2}
 use Rattle.ntfe_model.specs.Pairs.{VertexLists, entry}
-use Rattle.ntfe_model.specs.Reflexive.{at, IsTightOnFour, HasLowProduct, IsTightOnNoFour}
-use Rattle.reflexive_pair.specs.Ruled.{HasNoLowProduct, AreTightOnFour}
+use Rattle.ntfe_model.specs.Reflexive.{at, IsTightOnFour, HasLowProduct}
+use Rattle.reflexive_pair.specs.RuledOut.{HasNoLowProduct, AreTightOnFour}
 use Rattle.reflexive_pair.specs.Firsts.{IsHighBelow, IsFirstLow}
 
 -- the entry with the number after a place
@@ -63,13 +63,4 @@ low_least p i j within h before = record {
       (λ (s : (a ≡ i + 1) × (b < j + 1)).
       let Q : Vector → Type 0 = λ w. negsuc 0 ≤ℤ dot (entry p.dual b) w in
       not_low _ (subst Q (at_number p.vertices a i s.0) (h.first (b - 1) (omega arith))) r.under) earlier;
-}
-
-pub loose_least : (ms vs : List Vector) (i : ℕ) → i < length ms → ¬ (IsTightOnFour (at ms i) vs) → ((k : ℕ) → k < i → IsTightOnFour (at ms k) vs) → IsLeast (IsTightOnNoFour ms vs) (i + 1)
-loose_least ms vs i within h before = record {
-  holds = record {
-    number = (omega arith, omega arith);
-    loose = let P : Vector → Type 0 = λ m. ¬ (IsTightOnFour m vs) in subst P (sym (entry-at ms i)) h;
-  };
-  least = λ a lt r. let n = r.number in r.loose (before (a - 1) (omega arith));
 }

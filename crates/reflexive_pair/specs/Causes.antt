@@ -4,7 +4,7 @@ use Rattle.ntfe_nums.specs.Vectors.{dot}
 use Rattle.ntfe_model.specs.Lists.{IsLeast, IsLeast2, IsLeast4}
 use Rattle.ntfe_model.specs.Pairs.{VertexLists, entry}
 use Rattle.ntfe_model.specs.Reflexive.{HasNoRepeat, IsRepeated, HasLowProduct, IsTightOnNoFour, IsOtherFacet}
-use Rattle.reflexive_pair.specs.Ruled.{AreDistinct, HasNoLowProduct, AreTightOnFour}
+use Rattle.reflexive_pair.specs.RuledOut.{AreDistinct, HasNoLowProduct, AreTightOnFour}
 use Rattle.reflexive_pair.specs.declared.fault.PairFault.{PairFault}
 use Rattle.reflexive_pair.specs.declared.fault.PairFault.TheVariants.{Repeated, Below, NotFacet, NotVertex, OtherFacet}
 

@@ -2,6 +2,6 @@ pub mod Causes
 pub mod Firsts
 pub mod Fours
 pub mod Incidence
-pub mod Ruled
+pub mod RuledOut
 pub mod Sides
 pub mod Uncovered

@@ -9,7 +9,7 @@ use crate::facets::first_other_facet;
 use crate::fault::PairFault;
 use crate::products::first_low;
 use crate::repeats::first_repeat;
-use crate::tight::{first_loose, product};
+use crate::tight::{first_tight_on_no_four, product};
 use ntfe_model::{Pair, Vec4};
 
 /// The number, counted from 1, of a place that is counted from 0.
@@ -46,10 +46,10 @@ fn decide(vertices: &[Vec4], dual: &[Vec4]) -> Result<(), PairFault>
             product: product(&dual[j], &vertices[i]),
         });
     }
-    if let Some(i) = first_loose(dual, vertices) {
+    if let Some(i) = first_tight_on_no_four(dual, vertices) {
         return Err(PairFault::NotFacet { facet: number(i) });
     }
-    if let Some(i) = first_loose(vertices, dual) {
+    if let Some(i) = first_tight_on_no_four(vertices, dual) {
         return Err(PairFault::NotVertex { vertex: number(i) });
     }
     if let Some((i, j, k, l)) = first_other_facet(vertices, dual) {

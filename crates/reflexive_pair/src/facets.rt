@@ -1,13 +1,13 @@
 //! Facets that no dual vertex describes.
-ghost use Rattle.std.specs.Prelude.{◌≡◌, ℕ, ◌<◌, ◌≤◌, ◌+◌, length, All, MatchOption, ⊤};
+ghost use Rattle.std.specs.Prelude.{◌≡◌, true, false, ℕ, ◌<◌, ◌≤◌, ◌+◌, length, All, MatchOption, ⊤};
 ghost use Rattle.ntfe_model.specs.Lists.{IsLeast4};
 ghost use Rattle.ntfe_model.specs.Pairs.{IsSmall, VertexLists};
-ghost use Rattle.ntfe_model.specs.Reflexive.{AreRising, IsCovered, IsOtherFacet};
+ghost use Rattle.ntfe_model.specs.Reflexive.{at, HasFacet, AreRising, IsCovered, IsOtherFacet};
 ghost use Rattle.reflexive_pair.specs.Incidence.{IsTable};
 ghost use Rattle.reflexive_pair.specs.Uncovered.{IsUncovered, AreWithinPlaces};
 
 use crate::fours::{FourTest, first_four};
-use crate::incidence::{have_facet, tight_table};
+use crate::incidence::tight_table;
 use crate::planes::span_facet;
 use ntfe_model::Vec4;
 
@@ -20,6 +20,21 @@ struct OtherFacetTest<'a> {
     ghost small: { All IsSmall vertices.now },
     ghost few: { length vertices.now ≤ 64 },
     ghost incidence: { IsTable vertices.now dual.now table.now },
+}
+
+impl OtherFacetTest<'_> {
+    /// Whether some dual vertex is tight on the vertices at four places.
+    #[inline(always)]
+    fn is_described(&self, i: usize, j: usize, k: usize, l: usize) -> bool
+        requires first { i < length self.now.vertices.now }
+        requires second { j < length self.now.vertices.now }
+        requires third { k < length self.now.vertices.now }
+        requires fourth { l < length self.now.vertices.now }
+        ensures when_true { result ≡ true → HasFacet self.now.dual.now (at self.now.vertices.now i) (at self.now.vertices.now j) (at self.now.vertices.now k) (at self.now.vertices.now l) }
+        ensures when_false { result ≡ false → ¬ (HasFacet self.now.dual.now (at self.now.vertices.now i) (at self.now.vertices.now j) (at self.now.vertices.now k) (at self.now.vertices.now l)) }
+    {
+        self.table[i] & self.table[j] & self.table[k] & self.table[l] != 0
+    }
 }
 
 impl FourTest for OtherFacetTest<'_> {
@@ -40,7 +55,7 @@ impl FourTest for OtherFacetTest<'_> {
     }
 
     fn passes(&self, i: usize, j: usize, k: usize, l: usize) -> bool {
-        if have_facet(self.vertices, self.dual, self.table, i, j, k, l) {
+        if self.is_described(i, j, k, l) {
             return false;
         }
         let list = self.vertices;

@@ -1,7 +1,6 @@
 //! Which dual vertices are tight on which vertices, as bits.
 ghost use Rattle.std.specs.Prelude.{◌≡◌, ℕ, ◌<◌, ◌≤◌, true, false, length, All};
 ghost use Rattle.ntfe_model.specs.Pairs.{IsSmall};
-ghost use Rattle.ntfe_model.specs.Reflexive.{at, HasFacet};
 ghost use Rattle.reflexive_pair.specs.Incidence.{AreTightBits, IsTable};
 
 use crate::tight::is_tight;
@@ -36,27 +35,4 @@ pub fn tight_table(vertices: &[Vec4], dual: &[Vec4]) -> [u64; 64]
         table[i] = tight_bits(v, dual);
     }
     table
-}
-
-/// Whether some dual vertex is tight on the vertices at four places.
-#[inline(always)]
-pub fn have_facet(
-    vertices: &[Vec4],
-    dual: &[Vec4],
-    table: &[u64; 64],
-    i: usize,
-    j: usize,
-    k: usize,
-    l: usize,
-) -> bool
-    requires incidence { IsTable vertices.now dual.now table.now }
-    requires few { length vertices.now ≤ 64 }
-    requires first { i < length vertices.now }
-    requires second { j < length vertices.now }
-    requires third { k < length vertices.now }
-    requires fourth { l < length vertices.now }
-    ensures when_true { result ≡ true → HasFacet dual.now (at vertices.now i) (at vertices.now j) (at vertices.now k) (at vertices.now l) }
-    ensures when_false { result ≡ false → ¬ (HasFacet dual.now (at vertices.now i) (at vertices.now j) (at vertices.now k) (at vertices.now l)) }
-{
-    table[i] & table[j] & table[k] & table[l] != 0
 }

@@ -5,7 +5,7 @@ ghost use Rattle.ntfe_model.specs.Lists.{IsLeast2};
 ghost use Rattle.ntfe_model.specs.Pairs.{IsSmall, VertexLists};
 ghost use Rattle.ntfe_model.specs.Reflexive.{at, HasLowProduct};
 ghost use Rattle.reflexive_pair.specs.Firsts.{IsHighBelow, IsFirstLow};
-ghost use Rattle.reflexive_pair.specs.Ruled.{HasNoLowProduct};
+ghost use Rattle.reflexive_pair.specs.RuledOut.{HasNoLowProduct};
 
 use crate::tight::product;
 use ntfe_model::Vec4;

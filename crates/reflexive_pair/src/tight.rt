@@ -4,7 +4,7 @@ ghost use Rattle.ntfe_nums.specs.Vectors.{dot, AreLinearlyIndependent};
 ghost use Rattle.ntfe_model.specs.Lists.{IsLeast};
 ghost use Rattle.ntfe_model.specs.Pairs.{IsSmall};
 ghost use Rattle.ntfe_model.specs.Reflexive.{at, IsTight, AreTightFour, IsTightOnFour, IsTightOnNoFour};
-ghost use Rattle.reflexive_pair.specs.Ruled.{AreTightOnFour};
+ghost use Rattle.reflexive_pair.specs.RuledOut.{AreTightOnFour};
 
 use crate::fours::{FourTest, first_four};
 use ntfe_model::Vec4;
@@ -90,7 +90,7 @@ fn is_tight_on_four(tip: &Vec4, list: &[Vec4]) -> bool
 }
 
 /// The first place of `tips` whose entry is tight on no four independent vectors of the list.
-pub fn first_loose(tips: &[Vec4], list: &[Vec4]) -> Option<usize>
+pub fn first_tight_on_no_four(tips: &[Vec4], list: &[Vec4]) -> Option<usize>
     requires small_tips { All IsSmall tips.now }
     requires small_list { All IsSmall list.now }
     ensures { MatchOption result

@@ -18,5 +18,5 @@ returns-clause-when_true c = λ t.
     record {
       independent = same_four AreAffinelyIndependent e f g h (c.span_facet.ensures.independent t);
       one_side = same_four (λ a b c' d. IsOnOneSide a b c' d vs) e f g h (c.span_facet.ensures.one_side t);
-      missing = c.have_facet.ensures.when_false c.if-have_facet.false;
+      missing = c.is_described.ensures.when_false c.if-is_described.false;
     }
