@@ -1,7 +1,8 @@
 //! Exact whole numbers: scalar products, determinants and normals.
 #![tactic(auto)]
 
-ghost use Rattle.std.specs.Prelude.{◌≡◌, ◌^◌, [], ◌∷◌, slice_index_or, neg_ℤ, ◌+ℤ◌};
+ghost use Rattle.std.specs.Prelude.{◌≡◌, ◌^◌, ◌≤◌, ◌<◌, ◌↔◌, [], ◌∷◌, slice_index_or, neg_ℤ, ◌+ℤ◌, unsigned_abs, MatchOption};
+ghost use Rattle.std.specs.Int.{IsGcd};
 ghost use Rattle.ntfe_nums.specs.Vectors.{vector, numbers, difference, dot, normal, det2, det3, det4 as determinant, cofactors};
 ghost use Rattle.ntfe_nums.specs.Sizes.{AreWithin};
 
@@ -125,4 +126,63 @@ pub fn side4(n: &[i128; 4], level: i128, x: &[i64; 4]) -> i128
     let x = wide(x);
     let product = dot_wide(n, &x);
     product + level
+}
+
+/// The greatest common divisor; that of 0 and 0 is 0.
+pub fn gcd(a: u128, b: u128) -> u128
+    ensures { IsGcd a b result }
+{
+    let mut x = a;
+    let mut y = b;
+    while y != 0 {
+        if x <= u128::from(u64::MAX) && y <= u128::from(u64::MAX) {
+            return u128::from(short_gcd(x as u64, y as u64));
+        }
+        (x, y) = (y, x % y);
+    }
+    x
+}
+
+/// The greatest common divisor of two words.
+fn short_gcd(a: u64, b: u64) -> u64
+    ensures { IsGcd a b result }
+{
+    let mut x = a;
+    let mut y = b;
+    while y != 0 {
+        (x, y) = (y, x % y);
+    }
+    x
+}
+
+/// The number in a shorter word; `None` exactly where its size is at least 2^width.
+pub fn narrow(x: i128, width: u8) -> Option<i64>
+    requires low { 1 ≤ width }
+    requires high { width ≤ 62 }
+    ensures { MatchOption result (2 ^ width ≤ unsigned_abs x) (λ z. (unsigned_abs x < 2 ^ width) × (z ≡ x)) }
+{
+    if x.unsigned_abs() >> width == 0 {
+        Some(x as i64)
+    } else {
+        None
+    }
+}
+
+#[cfg(test)]
+mod tests {
+    use super::*;
+
+    #[test]
+    fn divisors(rt: HostRuntime) {
+        assert_eq!(rt; gcd(0, 0), 0);
+        assert_eq!(rt; gcd(12, 18), 6);
+        assert_eq!(rt; gcd(1 << 100, 3 << 90), 1 << 90);
+    }
+
+    #[test]
+    fn narrows(rt: HostRuntime) {
+        assert_eq!(rt; narrow(-3, 2), Some(-3));
+        assert_eq!(rt; narrow(4, 2), None);
+        assert_eq!(rt; narrow(-4, 2), None);
+    }
 }
