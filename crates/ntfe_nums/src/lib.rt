@@ -116,18 +116,6 @@ pub fn normal4(a: &[i64; 4], b: &[i64; 4], c: &[i64; 4], d: &[i64; 4]) -> ([i128
     (n, -level)
 }
 
-/// The value at a point of the form that `normal4` answers.
-pub fn side4(n: &[i128; 4], level: i128, x: &[i64; 4]) -> i128
-    requires large { AreWithin (2 ^ 66) n.now }
-    requires level { AreWithin (2 ^ 90) (level ∷ []) }
-    requires small { AreWithin (2 ^ 20) x.now }
-    ensures { result ≡ dot (vector n.now) (vector x.now) +ℤ level }
-{
-    let x = wide(x);
-    let product = dot_wide(n, &x);
-    product + level
-}
-
 /// The greatest common divisor; that of 0 and 0 is 0.
 pub fn gcd(a: u128, b: u128) -> u128
     ensures { IsGcd a b result }
@@ -171,6 +159,23 @@ pub fn narrow(x: i128, width: u8) -> Option<i64>
 #[cfg(test)]
 mod tests {
     use super::*;
+
+    #[test]
+    fn products_and_determinants(rt: HostRuntime) {
+        let rows = [[1, 2, 3, 4], [5, 6, 7, 9], [2, -1, 3, 0], [4, 1, -2, 8]];
+        assert_eq!(rt; dot4(&rows[0], &rows[3]), 32);
+        assert_eq!(rt; det4(&rows), -315);
+        let unit = [[1, 0, 0, 0], [0, 1, 0, 0], [0, 0, 1, 0], [0, 0, 0, 1]];
+        assert_eq!(rt;
+            normal4(&unit[0], &unit[1], &unit[2], &unit[3]),
+            ([-1, -1, -1, -1], 1)
+        );
+        let square = [[0, 0, 0, 0], [1, 0, 0, 0], [0, 1, 0, 0], [1, 1, 0, 0]];
+        assert_eq!(rt;
+            normal4(&square[0], &square[1], &square[2], &square[3]),
+            ([0; 4], 0)
+        );
+    }
 
     #[test]
     fn divisors(rt: HostRuntime) {

@@ -25,3 +25,19 @@ pub fn origin_height(heights: &Heights) -> i128
     let most = greatest(heights.0.as_slice());
     -(1 + most as i128 * ((1 << 47) + 1))
 }
+
+#[cfg(test)]
+mod tests {
+    use super::*;
+    use ntfe_model::List;
+    use std::alloc::AllocError;
+
+    #[test]
+    fn heights_of_the_origin(rt: HostRuntime) -> Result<(), AllocError> {
+        let none = Heights(List::from_vec(vec![in rt.alloc(); 0i64; 5]?));
+        assert_eq!(rt; origin_height(&none), -1);
+        let pyramid = Heights(List::from_vec(vec![in rt.alloc(); 0, 0, 0, 1, 0, 0, 0]?));
+        assert_eq!(rt; origin_height(&pyramid), -140737488355330);
+        Ok(())
+    }
+}
