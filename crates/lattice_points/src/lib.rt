@@ -1,0 +1,11 @@
+//! The lattice points of a reflexive polytope that are not interior to a facet.
+#![tactic(auto)]
+
+mod bounds;
+mod column;
+mod fault;
+mod found;
+mod scan;
+
+pub use fault::PointFault;
+pub use scan::points;
