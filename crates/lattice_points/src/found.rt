@@ -1,12 +1,11 @@
 //! The points found so far.
-ghost use Rattle.std.specs.Prelude.{◌≡◌, ◌+◌, ◌<◌, ◌≤◌, ◌^◌, [], length, All, IfOk, IfErr, OnOk, OnErr};
-ghost use Rattle.ntfe_model.specs.Pairs.{IsSmall};
-ghost use Rattle.ntfe_model.specs.Points.{IsInside, facets_through, is_tight as tight_at};
+ghost use Rattle.std.specs.Prelude.{◌≡◌, ◌+◌, ◌<◌, ◌≤◌, ◌^◌, [], IfOk, IfErr, OnOk, OnErr};
+ghost use Rattle.ntfe_model.specs.Points.{IsInside};
 ghost use Rattle.lattice_points.specs.Scans.{Adds};
 
 use crate::fault::PointFault;
+use crate::tight::tight_facets;
 use ntfe_model::{List, Pair, Point, Vec4};
-use ntfe_nums::dot4;
 use std::alloc::{AllocError, Global};
 
 /// The most points that are listed.
@@ -17,31 +16,6 @@ const POINT_LIMIT: u64 = 400;
 pub struct Found {
     pub points: Vec<Point>,
     pub count: u64,
-}
-
-/// Whether the scalar product is -1.
-fn is_tight(m: &Vec4, x: &Vec4) -> bool
-    requires first { IsSmall m.now }
-    requires second { IsSmall x.now }
-    ensures { result ≡ tight_at m.now x.now }
-{
-    dot4(m.coordinates(), x.coordinates()) == -1
-}
-
-/// The numbers of the dual vertices that are tight at x, rising.
-fn tight_facets(alloc: Global, dual: &[Vec4], x: &Vec4) -> Result<Vec<u32>, AllocError>
-    requires few { length dual.now ≤ 64 }
-    requires small { All IsSmall dual.now }
-    requires place { IsSmall x.now }
-    ensures { IfOk result (λ v. v.items ≡ facets_through dual.now x.now) }
-{
-    let mut facets = Vec::new(alloc);
-    for (i, m) in dual.iter().enumerate() {
-        if is_tight(m, x) {
-            facets.push(i as u32 + 1)?;
-        }
-    }
-    Ok(facets)
 }
 
 impl Found {

@@ -6,6 +6,10 @@ mod column;
 mod fault;
 mod found;
 mod scan;
+#[cfg(test)]
+mod tests;
+mod tight;
 
 pub use fault::PointFault;
 pub use scan::points;
+pub use tight::is_tight;

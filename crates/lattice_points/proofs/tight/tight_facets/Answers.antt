@@ -1,8 +1,8 @@
 use Rattle.std.proofs.Common.{◌+◌, ◌∙◌, sym, ap, [], ◌∷◌, ◌++◌}
 use Rattle.lattice_points.proofs.LineLemmas.{same_at}
 use Rattle.lattice_points.proofs.FoundLemmas.{tight_next, loose_next}
-use Rattle.lattice_points.proofs.found.tight_facets.Goals as goal
-use Rattle.lattice_points.proofs.found.tight_facets.Goals.{then-is_tight+in_ok-push, else-is_tight}
+use Rattle.lattice_points.proofs.tight.tight_facets.Goals as goal
+use Rattle.lattice_points.proofs.tight.tight_facets.Goals.{then-is_tight+in_ok-push, else-is_tight}
 
 pub loop-i-preserved : goal.loop-i-preserved
 loop-i-preserved c =
