@@ -16,23 +16,22 @@ use Rattle.lattice_points.specs.Scans.{IsPointWith}
 range_more : (a n : ℕ) → range_with_len a (n + 1) ≡ range_with_len a n ++ (a + n) ∷ []
 range_more a n = sym (map-id (range_with_len a (n + 1))) ∙ map-range_with_len_more (λ k. k) a n (a + n) refl ∙ ap (λ ks. ks ++ (a + n) ∷ []) (map-id (range_with_len a n))
 
-module _ (ms : List Vector) (x m : Vector) (i : ℕ) (e : m ≡ get_or ms i origin) where
-  at_next : is_tight (entry ms (1 + i)) x ≡ is_tight m x
-  at_next = ap (λ n. is_tight n x) (ap (λ k. get_or ms k origin) (let k : 1 + i - 1 ≡ i = omega arith in k) ∙ sym e)
+-- one more number, which passes a test or fails it
+module _ (test : ℕ → Bool) (i : ℕ) where
+  filter_next : filter test (range_with_len 1 (i + 1)) ≡ filter test (range_with_len 1 i) ++ cond (test (1 + i)) ((1 + i) ∷ []) []
+  filter_next = ap (filter test) (range_more 1 i) ∙ filter-append test (range_with_len 1 i) ((1 + i) ∷ [])
 
-  next : filter (λ k. is_tight (entry ms k) x) (range_with_len 1 (i + 1)) ≡ filter (λ k. is_tight (entry ms k) x) (range_with_len 1 i) ++ cond (is_tight m x) ((1 + i) ∷ []) []
-  next =
-      ap (filter (λ k. is_tight (entry ms k) x)) (range_more 1 i)
-      ∙ filter-append (λ k. is_tight (entry ms k) x) (range_with_len 1 i) ((1 + i) ∷ [])
-      ∙ ap (λ b. filter (λ k. is_tight (entry ms k) x) (range_with_len 1 i) ++ cond b ((1 + i) ∷ []) []) at_next
-
-  pub tight_next : is_tight m x ≡ true → filter (λ k. is_tight (entry ms k) x) (range_with_len 1 i) ++ (i + 1) ∷ [] ≡ filter (λ k. is_tight (entry ms k) x) (range_with_len 1 (i + 1))
-  tight_next t =
+  pub passes_next : test (1 + i) ≡ true → filter test (range_with_len 1 i) ++ (i + 1) ∷ [] ≡ filter test (range_with_len 1 (i + 1))
+  passes_next t =
       let c : i + 1 ≡ 1 + i = omega arith in
-      sym (next ∙ (λ j. filter (λ k. is_tight (entry ms k) x) (range_with_len 1 i) ++ cond (t j) ((sym c) j ∷ []) []))
+      sym (filter_next ∙ (λ j. filter test (range_with_len 1 i) ++ cond (t j) (sym c j ∷ []) []))
 
-  pub loose_next : is_tight m x ≡ false → filter (λ k. is_tight (entry ms k) x) (range_with_len 1 i) ≡ filter (λ k. is_tight (entry ms k) x) (range_with_len 1 (i + 1))
-  loose_next t = sym (next ∙ (λ j. filter (λ k. is_tight (entry ms k) x) (range_with_len 1 i) ++ cond (t j) ((1 + i) ∷ []) []) ∙ append-nil (filter (λ k. is_tight (entry ms k) x) (range_with_len 1 i)))
+  pub fails_next : test (1 + i) ≡ false → filter test (range_with_len 1 i) ≡ filter test (range_with_len 1 (i + 1))
+  fails_next t = sym (filter_next ∙ ap (λ b. filter test (range_with_len 1 i) ++ cond b ((1 + i) ∷ []) []) t ∙ append-nil (filter test (range_with_len 1 i)))
+
+-- the test of one more dual vertex
+pub tight_at_next : (ms : List Vector) (x m : Vector) (i : ℕ) (b : Bool) → m ≡ get_or ms i origin → is_tight m x ≡ b → is_tight (entry ms (1 + i)) x ≡ b
+tight_at_next ms x m i b e t = ap (λ n. is_tight n x) (ap (λ k. get_or ms k origin) (let k : 1 + i - 1 ≡ i = omega arith in k) ∙ sym e) ∙ t
 
 -- ---- one place
 

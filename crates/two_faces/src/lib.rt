@@ -1,0 +1,11 @@
+//! The two-faces of a reflexive polytope, and its geometry.
+#![tactic(auto)]
+
+mod list;
+mod meet;
+mod numbers;
+mod plane;
+mod whole;
+
+pub use list::faces;
+pub use whole::geometry;
