@@ -5,6 +5,8 @@ mod list;
 mod meet;
 mod numbers;
 mod plane;
+#[cfg(test)]
+mod tests;
 mod whole;
 
 pub use list::faces;

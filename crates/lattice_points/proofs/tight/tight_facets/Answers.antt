@@ -15,9 +15,9 @@ loop-i-preserved c =
     let e = same_at ms i m c.loop-i-test.true c.index-dual-i.is in
     let test : ℕ → Bool = λ k. is_tight (entry ms k) x in
     elim c.if-is_tight.branch [
-        then-is_tight+in_ok-push w ↦
-            ap (λ v. v.items) w.facets-is ∙ w.in_ok-push.ensures.items ∙ ap (λ fs. fs ++ (i + 1) ∷ []) c.loop-i.invariant
-            ∙ passes_next test i (tight_at_next ms x m i true e (sym c.is_tight.ensures ∙ w.if-is_tight.true))
-        | else-is_tight w ↦
-            ap (λ v. v.items) w.facets-is ∙ c.loop-i.invariant ∙ fails_next test i (tight_at_next ms x m i false e (sym c.is_tight.ensures ∙ w.if-is_tight.false))
+      | then-is_tight+in_ok-push w ↦
+          ap (λ v. v.items) w.facets-is ∙ w.in_ok-push.ensures.items ∙ ap (λ fs. fs ++ (i + 1) ∷ []) c.loop-i.invariant
+          ∙ passes_next test i (tight_at_next ms x m i true e (sym c.is_tight.ensures ∙ w.if-is_tight.true))
+      | else-is_tight w ↦
+          ap (λ v. v.items) w.facets-is ∙ c.loop-i.invariant ∙ fails_next test i (tight_at_next ms x m i false e (sym c.is_tight.ensures ∙ w.if-is_tight.false))
     ]
