@@ -1,0 +1,5 @@
+pub mod CutLemmas
+pub mod BoxLemmas
+pub mod LineLemmas
+pub mod FoundLemmas
+pub mod ScanLemmas

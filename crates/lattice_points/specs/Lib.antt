@@ -1,0 +1,4 @@
+pub mod Boxes
+pub mod Faults
+pub mod Lines
+pub mod Scans

@@ -1,0 +1,15 @@
+//! The lattice points of a reflexive polytope that are not interior to a facet.
+#![tactic(auto)]
+
+mod bounds;
+mod column;
+mod fault;
+mod found;
+mod scan;
+#[cfg(test)]
+mod tests;
+mod tight;
+
+pub use fault::PointFault;
+pub use scan::points;
+pub use tight::is_tight;

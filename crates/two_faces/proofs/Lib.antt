@@ -1,0 +1,3 @@
+pub mod PlaneLemmas
+pub mod MeetLemmas
+pub mod ListLemmas
