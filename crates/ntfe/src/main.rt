@@ -1,0 +1,37 @@
+//! The program: makes the real source, sinks and gate, and calls the top call.
+#![tactic(auto)]
+
+use io_edge::{OpenGate, ReadEdge, WriteEdge};
+use ntfe_run::run;
+use std::process::ExitCode;
+use std::{env, io};
+
+/// The words of the command line, without the program's name.
+fn words(rt: &HostRuntime) -> io::Result<Vec<String>> {
+    let mut words = Vec::new(rt.alloc());
+    for word in env::args(rt)?.skip(1) {
+        words.push(word)?;
+    }
+    Ok(words)
+}
+
+fn main(rt: HostRuntime) -> ExitCode {
+    // Words that are not text have no meaning, as the empty list has none.
+    let words = match words(&rt) {
+        Ok(words) => words,
+        Err(_) => Vec::new(rt.alloc()),
+    };
+    let mut source = ReadEdge::new(rt.stdin());
+    let mut out = WriteEdge::new(rt.stdout());
+    let mut err = WriteEdge::new(rt.stderr());
+    let status = run(
+        &rt,
+        rt.alloc(),
+        words.as_slice(),
+        &mut source,
+        &mut out,
+        &mut err,
+        &OpenGate,
+    );
+    ExitCode::from(status.code())
+}

@@ -1,0 +1,89 @@
+//! The text of the classes, where each two-face has three points.
+ghost use Rattle.std.specs.Prelude.{◌≡◌, ◌↔◌, IsTrue, IfOk, pos, false, replicate, ◌++◌};
+ghost use Rattle.io_edge.specs.Lines.{WritesText};
+ghost use Rattle.class_text.specs.Forms.{form_of};
+ghost use Rattle.ntfe_model.specs.RunText.{head_text, block_text, end_line};
+ghost use Rattle.ntfe_run.specs.PlainText.{AreTriangles, IsPlainForm, plain_block, plain_text};
+
+use class_text::{TextForm, write_class, write_end, write_head};
+use io_edge::{LineFault, Sink};
+use ntfe_model::{Choice, Geometry, Heights, List, Push};
+use std::alloc::{AllocError, Global};
+
+/// Whether each two-face has three points.
+pub fn are_triangles(geometry: &Geometry) -> bool
+    ensures { IsTrue result ↔ AreTriangles geometry.now }
+{
+    geometry
+        .faces()
+        .iter()
+        .all(|face| face.points.as_slice().len() == 3)
+}
+
+/// So many items 0.
+fn zero_choice(alloc: Global, faces: usize) -> Result<Choice, AllocError>
+    ensures { IfOk result (λ c. c ≡ replicate faces 0) }
+{
+    Ok(Choice(List::from_vec(vec![in alloc; 0u32; faces]?)))
+}
+
+/// So many heights 0.
+fn zero_heights(alloc: Global, points: usize) -> Result<Heights, AllocError>
+    ensures { IfOk result (λ w. w ≡ replicate points (pos 0)) }
+{
+    Ok(Heights(List::from_vec(vec![in alloc; 0i64; points]?)))
+}
+
+/// What the text depends on beside the classes.
+fn text_form(alloc: Global, geometry: &Geometry) -> Result<TextForm, AllocError>
+    ensures { IfOk result (λ f. IsPlainForm geometry.now f) }
+{
+    let pair = geometry.pair().try_clone(alloc)?;
+    Ok(TextForm {
+        pair,
+        push: Push::Up,
+        stars: false,
+        points: geometry.points().len() as u32,
+        faces: geometry.faces().len() as u32,
+        kept: 0,
+    })
+}
+
+/// Writes the block of the one class.
+fn write_block<K: Sink>(alloc: Global, form: &TextForm, out: &mut K) -> Result<(), LineFault>
+    requires { form.now.stars ≡ false }
+    ensures { WritesText (K.taken out.old) (K.taken out.new) (K.faults out.old) (K.faults out.new) result (block_text (plain_block form.now.faces form.now.points)) }
+{
+    let Ok(choice) = zero_choice(alloc, form.faces as usize) else {
+        return Err(LineFault::Memory);
+    };
+    let Ok(heights) = zero_heights(alloc, form.points as usize) else {
+        return Err(LineFault::Memory);
+    };
+    write_class(alloc, form, &choice, &heights, None, out)
+}
+
+/// Writes the whole text.
+fn write_text<K: Sink>(alloc: Global, form: &TextForm, out: &mut K) -> Result<(), LineFault>
+    requires { form.now.stars ≡ false }
+    ensures { WritesText (K.taken out.old) (K.taken out.new) (K.faults out.old) (K.faults out.new) result
+        (head_text form.now.pair (form_of form.now) ++ (block_text (plain_block form.now.faces form.now.points) ++ end_line 1)) }
+{
+    write_head(alloc, form, out)?;
+    write_block(alloc, form, out)?;
+    write_end(alloc, false, 1, out)
+}
+
+/// Writes the text of the classes, where each two-face has three points: one class, with items 0 and heights 0.
+pub fn write_classes<K: Sink>(
+    alloc: Global,
+    geometry: &Geometry,
+    out: &mut K,
+) -> Result<(), LineFault>
+    ensures { WritesText (K.taken out.old) (K.taken out.new) (K.faults out.old) (K.faults out.new) result (plain_text geometry.now) }
+{
+    let Ok(form) = text_form(alloc, geometry) else {
+        return Err(LineFault::Memory);
+    };
+    write_text(alloc, &form, out)
+}

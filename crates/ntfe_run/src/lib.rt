@@ -1,0 +1,18 @@
+//! The top call: all that the program does.
+#![tactic(auto)]
+
+mod classes;
+mod command;
+mod faces;
+mod inputs;
+mod messages;
+mod numbered;
+mod part;
+mod status;
+mod top;
+
+pub use status::{Refusal, Status};
+pub use top::{run, run_alone};
+
+#[cfg(test)]
+mod tests;

@@ -1,0 +1,204 @@
+//! The line on standard error that tells how a run ended.
+ghost use Rattle.std.specs.Prelude.{◌≡◌, ◌++◌, codes, IfErr};
+ghost use Rattle.io_edge.specs.Lines.{WritesText};
+ghost use Rattle.ntfe_run.specs.Messages.{line_message, equal_message, text_message, pair_message, point_message, refusal_message, answer_message, message_line};
+
+use crate::part::Part::{Number, Signed, Text};
+use crate::part::{write_fixed, write_parts};
+use crate::status::{Refusal, Status};
+use io_edge::{LineFault, Sink};
+use lattice_points::PointFault;
+use pair_text::TextFault;
+use reflexive_pair::PairFault;
+
+const USAGE: &str =
+    "usage: classes, resume, faces or demo N, with --workers, --limit, --width, --push, --stars";
+
+/// Writes what is wrong with a line of the input.
+fn write_line_message<E: Sink>(number: u32, what: &str, err: &mut E) -> Result<(), LineFault>
+    ensures text { WritesText (E.taken err.old) (E.taken err.new) (E.faults err.old) (E.faults err.new) result (line_message number what.now) }
+    ensures fault { IfErr result (λ e. e ≡ LineFault.Write) }
+{
+    write_parts(&[Text("line "), Number(u64::from(number)), Text(what)], err)
+}
+
+/// Writes why the bytes are no pair text.
+fn write_text_message<E: Sink>(fault: TextFault, err: &mut E) -> Result<(), LineFault>
+    ensures text { WritesText (E.taken err.old) (E.taken err.new) (E.faults err.old) (E.faults err.new) result (text_message fault) }
+    ensures fault { IfErr result (λ e. e ≡ LineFault.Write) }
+{
+    match fault {
+        TextFault::BadLine { line } => write_line_message(line, ": bad line", err),
+        TextFault::BadNumber { line } => write_line_message(line, ": bad number", err),
+        TextFault::TooLarge { line } => write_line_message(line, ": number too large", err),
+        TextFault::Count { line } => write_line_message(line, ": count not from 5 to 64", err),
+        TextFault::Long { line } => write_line_message(line, ": input goes on", err),
+        TextFault::Short => write_fixed("input ends early", err),
+        TextFault::Memory => write_fixed("out of memory", err),
+    }
+}
+
+/// Writes why the pair is not reflexive.
+fn write_pair_message<E: Sink>(fault: PairFault, err: &mut E) -> Result<(), LineFault>
+    ensures text { WritesText (E.taken err.old) (E.taken err.new) (E.faults err.old) (E.faults err.new) result (pair_message fault) }
+    ensures fault { IfErr result (λ e. e ≡ LineFault.Write) }
+{
+    match fault {
+        PairFault::Repeated { dual: true, i, j } => write_equal("dual vertices ", i, j, err),
+        PairFault::Repeated { dual: false, i, j } => write_equal("vertices ", i, j, err),
+        PairFault::Below {
+            vertex,
+            facet,
+            product,
+        } => write_parts(
+            &[
+                Text("vertex "),
+                Number(u64::from(vertex)),
+                Text(" with dual vertex "),
+                Number(u64::from(facet)),
+                Text(" gives "),
+                Signed(i128::from(product)),
+            ],
+            err,
+        ),
+        PairFault::NotFacet { facet } => write_parts(
+            &[
+                Text("dual vertex "),
+                Number(u64::from(facet)),
+                Text(" is no facet"),
+            ],
+            err,
+        ),
+        PairFault::NotVertex { vertex } => write_parts(
+            &[
+                Text("vertex "),
+                Number(u64::from(vertex)),
+                Text(" is no vertex"),
+            ],
+            err,
+        ),
+        PairFault::OtherFacet { i, j, k, l } => write_other_facet(i, j, k, l, err),
+    }
+}
+
+/// Writes which entries of a list are equal.
+fn write_equal<E: Sink>(list: &str, i: u32, j: u32, err: &mut E) -> Result<(), LineFault>
+    ensures text { WritesText (E.taken err.old) (E.taken err.new) (E.faults err.old) (E.faults err.new) result (equal_message list.now i j) }
+    ensures fault { IfErr result (λ e. e ≡ LineFault.Write) }
+{
+    write_parts(
+        &[
+            Text(list),
+            Number(u64::from(i)),
+            Text(" and "),
+            Number(u64::from(j)),
+            Text(" are equal"),
+        ],
+        err,
+    )
+}
+
+/// Writes which vertices span a facet that is not described.
+fn write_other_facet<E: Sink>(i: u32, j: u32, k: u32, l: u32, err: &mut E) -> Result<(), LineFault>
+    ensures text { WritesText (E.taken err.old) (E.taken err.new) (E.faults err.old) (E.faults err.new) result (pair_message (PairFault.OtherFacet i j k l)) }
+    ensures fault { IfErr result (λ e. e ≡ LineFault.Write) }
+{
+    write_parts(
+        &[
+            Text("vertices "),
+            Number(u64::from(i)),
+            Text(" "),
+            Number(u64::from(j)),
+            Text(" "),
+            Number(u64::from(k)),
+            Text(" "),
+            Number(u64::from(l)),
+            Text(" span another facet"),
+        ],
+        err,
+    )
+}
+
+/// Writes why the points are not listed.
+fn write_point_message<E: Sink>(fault: &PointFault, err: &mut E) -> Result<(), LineFault>
+    ensures text { WritesText (E.taken err.old) (E.taken err.new) (E.faults err.old) (E.faults err.new) result (point_message fault.now) }
+    ensures fault { IfErr result (λ e. e ≡ LineFault.Write) }
+{
+    match fault {
+        PointFault::TooWide { columns } => write_parts(
+            &[
+                Text("box of "),
+                Number(u64::from(*columns)),
+                Text(" columns"),
+            ],
+            err,
+        ),
+        PointFault::TooMany { count } => {
+            write_parts(&[Number(u64::from(*count)), Text(" points")], err)
+        }
+        PointFault::Memory => write_fixed("out of memory", err),
+    }
+}
+
+/// Writes why the input was refused.
+fn write_refusal_message<E: Sink>(refusal: &Refusal, err: &mut E) -> Result<(), LineFault>
+    ensures text { WritesText (E.taken err.old) (E.taken err.new) (E.faults err.old) (E.faults err.new) result (refusal_message refusal.now) }
+    ensures fault { IfErr result (λ e. e ≡ LineFault.Write) }
+{
+    match refusal {
+        Refusal::Size { limit } => write_parts(
+            &[
+                Text("input over "),
+                Number(u64::from(*limit)),
+                Text(" bytes"),
+            ],
+            err,
+        ),
+        Refusal::Text(fault) => write_text_message(*fault, err),
+        Refusal::Pair(fault) => write_pair_message(*fault, err),
+        Refusal::Points(fault) => write_point_message(fault, err),
+        Refusal::Unready { stage } => {
+            write_parts(&[Text("not built: stage "), Number(u64::from(*stage))], err)
+        }
+    }
+}
+
+/// Writes what tells of an answer other than `Done`.
+fn write_answer_message<E: Sink>(status: &Status, err: &mut E) -> Result<(), LineFault>
+    ensures text { WritesText (E.taken err.old) (E.taken err.new) (E.faults err.old) (E.faults err.new) result (answer_message status.now) }
+    ensures fault { IfErr result (λ e. e ≡ LineFault.Write) }
+{
+    match status {
+        Status::Done => Ok(()),
+        Status::Usage => write_fixed(USAGE, err),
+        Status::Refused(refusal) => write_refusal_message(refusal, err),
+        Status::Memory => write_fixed("out of memory", err),
+        Status::ReadFault => write_fixed("read failed", err),
+        Status::WriteFault => write_fixed("write failed", err),
+    }
+}
+
+/// Writes the line that tells of an answer other than `Done`.
+fn write_told<E: Sink>(status: &Status, err: &mut E) -> Result<(), LineFault>
+    ensures text { WritesText (E.taken err.old) (E.taken err.new) (E.faults err.old) (E.faults err.new) result (codes "ntfe: " ++ (answer_message status.now ++ codes "\n")) }
+    ensures fault { IfErr result (λ e. e ≡ LineFault.Write) }
+{
+    write_fixed("ntfe: ", err)?;
+    write_answer_message(status, err)?;
+    write_fixed("\n", err)
+}
+
+/// Writes the line that tells of the answer; nothing where all was done. Takes no memory.
+pub fn write_message<E: Sink>(status: &Status, err: &mut E) -> Result<(), LineFault>
+    ensures text { WritesText (E.taken err.old) (E.taken err.new) (E.faults err.old) (E.faults err.new) result (message_line status.now) }
+    ensures fault { IfErr result (λ e. e ≡ LineFault.Write) }
+{
+    match status {
+        Status::Done => Ok(()),
+        Status::Usage
+        | Status::Refused(_)
+        | Status::Memory
+        | Status::ReadFault
+        | Status::WriteFault => write_told(status, err),
+    }
+}

@@ -1,0 +1,55 @@
+//! How a run ends.
+ghost use Rattle.std.specs.Prelude.{◌≡◌};
+ghost use Rattle.ntfe_run.specs.Codes.{code_of};
+
+use lattice_points::PointFault;
+use pair_text::TextFault;
+use reflexive_pair::PairFault;
+
+/// Why the input was refused. No want of memory occurs in it.
+#[derive(Drop, Debug, PartialEq, Eq)]
+pub enum Refusal {
+    /// The source gave one byte more than this many.
+    Size { limit: u32 },
+    /// The bytes are no pair text.
+    Text(TextFault),
+    /// The pair is not reflexive.
+    Pair(PairFault),
+    /// The polytope's box is too wide, or it has too many points.
+    Points(PointFault),
+    /// The program does not answer this yet.
+    Unready { stage: u8 },
+}
+
+/// How a run ends.
+#[derive(Drop, Debug, PartialEq, Eq)]
+pub enum Status {
+    /// The whole answer was written.
+    Done,
+    /// The words have no meaning.
+    Usage,
+    /// The input was refused.
+    Refused(Refusal),
+    /// There was no memory.
+    Memory,
+    /// The source failed.
+    ReadFault,
+    /// The sink for the answer failed.
+    WriteFault,
+}
+
+impl Status {
+    /// The exit status of the program.
+    pub fn code(&self) -> u8
+        ensures { result ≡ code_of self.now }
+    {
+        match self {
+            Status::Done => 0,
+            Status::Usage => 2,
+            Status::Refused(_) => 3,
+            Status::Memory => 6,
+            Status::ReadFault => 7,
+            Status::WriteFault => 8,
+        }
+    }
+}
