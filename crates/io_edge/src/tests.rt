@@ -7,12 +7,8 @@ use crate::{
 use std::alloc::AllocError;
 
 /// Reads all through the bound.
-fn collected<S: Source>(
-    rt: &HostRuntime,
-    source: &mut S,
-    limit: usize,
-) -> Result<Vec<u8>, ReadStop> {
-    read_all(rt.alloc(), source, limit)
+fn collected<S: Source>(rt: &HostRuntime, source: &mut S, limit: u8) -> Result<Vec<u8>, ReadStop> {
+    read_all(rt.alloc(), source, usize::from(limit))
 }
 
 /// Writes two pieces through the bound, and says how many were taken whole.
@@ -30,7 +26,7 @@ fn pass<G: Gate>(gate: &G) {
 #[test]
 fn sources_give_their_bytes(rt: HostRuntime) -> Result<(), AllocError> {
     for (step, failing, limit, want) in [
-        (3usize, 9u64, 5usize, Ok(5usize)),
+        (3usize, 9u64, 5u8, Ok(5usize)),
         (1, 9, 4, Err(ReadStop::Size)),
         (2, 2, 5, Err(ReadStop::Read)),
     ] {
