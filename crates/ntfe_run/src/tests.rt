@@ -177,8 +177,8 @@ fn texts_of_small_pairs(rt: HostRuntime) -> Result<(), AllocError> {
         let all = run_on(&rt, &[word], pair, 9999)?;
         let lines = if word == "classes" { pair } else { "" };
         let want = format!(in rt.alloc(); "{head}{lines}{text}")?;
-        assert_eq!(rt; all.code, 0, "{word}");
-        assert!(rt; all.out.bytes() == want.as_bytes(), "{word} {text}");
+        assert_eq!(rt; all.code, 0);
+        assert!(rt; all.out.bytes() == want.as_bytes());
         assert!(rt; all.err.bytes().is_empty());
     }
     Ok(())
@@ -255,28 +255,35 @@ fn a_facet_that_is_not_given(rt: HostRuntime) -> Result<(), AllocError> {
     Ok(())
 }
 
+/// Whether the words have no meaning for the program.
+fn is_usage<R: Threads + Wait + Sync + AllocGlobal>(
+    rt: &R,
+    words: &[&str],
+) -> Result<bool, AllocError> {
+    let usage = run_on(rt, words, SIMPLEX, 9999)?;
+    Ok(usage.code == 2 && usage.err.bytes() == USAGE.as_bytes() && usage.out.bytes().is_empty())
+}
+
 #[test]
-fn words_without_a_meaning_and_long_inputs(rt: HostRuntime) -> Result<(), AllocError> {
-    for words in [
-        [].as_slice(),
-        ["demo", "6"].as_slice(),
-        ["faces", "--workers", "2"].as_slice(),
-    ] {
-        let usage = run_on(&rt, words, SIMPLEX, 9999)?;
-        assert_eq!(rt; usage.code, 2);
-        assert!(rt; usage.err.bytes() == USAGE.as_bytes() && usage.out.bytes().is_empty());
-    }
-    let feeds = vec![in rt.alloc(); b'\n'; 65537]?;
+fn words_without_a_meaning(rt: HostRuntime) -> Result<(), AllocError> {
+    assert!(rt; is_usage(&rt, &[])?);
+    assert!(rt; is_usage(&rt, &["demo", "6"])?);
+    assert!(rt; is_usage(&rt, &["faces", "--workers", "2"])?);
+    assert!(rt; !is_usage(&rt, &["faces"])?);
+    Ok(())
+}
+
+#[test]
+fn inputs_at_the_limit(rt: HostRuntime) -> Result<(), AllocError> {
+    let words = owned(rt.alloc(), &["classes"])?;
     for (length, message) in [
         (65537usize, "ntfe: input over 65536 bytes\n"),
         (65536, "ntfe: input ends early\n"),
     ] {
-        let mut source = SliceSource {
-            bytes: &feeds.as_slice()[..length.min(feeds.len())],
-        };
+        let feeds = vec![in rt.alloc(); b'\n'; length]?;
+        let mut source = MemorySource::new(feeds, 9000, Vec::new(rt.alloc()));
         let mut out = MemorySink::new(rt.alloc(), 9, Vec::new(rt.alloc()))?;
         let mut err = MemorySink::new(rt.alloc(), 99, Vec::new(rt.alloc()))?;
-        let words = owned(rt.alloc(), &["classes"])?;
         let status = run_alone(
             rt.alloc(),
             words.as_slice(),
