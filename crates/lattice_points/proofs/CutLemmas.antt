@@ -1,11 +1,11 @@
 -- The numbers x of an extent with `level + slope * x` at least -1.
-use Rattle.std.proofs.Common.{◌≡◌, ℕ, zero, suc, ◌+◌, ◌*◌, ◌-◌, ◌/◌, ◌%◌, ◌^◌, ◌<◌, ◌≤◌, Bool, true, false, refl, sym, ap, ◌∙◌, subst, arith, ℤ, pos, negsuc, ◌+ℤ◌, ◌-ℤ◌, ◌*ℤ◌, neg_ℤ, ◌≤ℤ◌, List, [], ◌∷◌, unsigned_abs, w64, to_z, of_z, to_z-of_z, FitsSigned, mul-le-mul_left}
+use Rattle.std.proofs.Common.{◌≡◌, ℕ, zero, suc, ◌+◌, ◌-◌, ◌%◌, ◌^◌, ◌<◌, ◌≤◌, true, false, refl, sym, ap, ◌∙◌, subst, arith, ℤ, pos, negsuc, ◌+ℤ◌, ◌-ℤ◌, ◌*ℤ◌, ◌≤ℤ◌, [], ◌∷◌, unsigned_abs, w64, to_z, of_z, to_z-of_z, FitsSigned, mul-le-mul_left}
 use Rattle.std.specs.Prelude.{◌<ℤ◌, ◌↔◌}
 use Rattle.std.specs.Int.{int_div_euclid}
 use Rattle.std.proofs.lemmas.Int.{ints, by_lt_z, fits_signed_from_abs}
 use borrow.Author.Differences.{up, down}
 use lib.Signed.{lt_z}
-use Rattle.ntfe_nums.proofs.Ring.{Expression, ring, right_sum, product_one, product_comm}
+use Rattle.ntfe_nums.proofs.Ring.{Expression, ring, right_sum, product_one}
 use Rattle.ntfe_nums.proofs.Ring.Expression.{var, num, plus, minus, times}
 use Rattle.ntfe_nums.proofs.Machine.{machine, raw, exact, fits, back}
 use Rattle.ntfe_nums.specs.Sizes.{AreWithin}

@@ -1,6 +1,6 @@
 -- The facets through a place, and the points of one place.
-use Rattle.std.proofs.Common.{◌≡◌, ℕ, ◌+◌, ◌-◌, ◌<◌, ◌≤◌, Bool, true, false, cond, refl, sym, ap, ◌∙◌, subst, arith, List, [], ◌∷◌, ◌++◌, length, get_or}
-use Rattle.std.specs.Prelude.{filter, All, Contains}
+use Rattle.std.proofs.Common.{◌≡◌, ℕ, ◌+◌, ◌-◌, ◌<◌, ◌≤◌, Bool, true, false, cond, refl, sym, ap, ◌∙◌, arith, List, [], ◌∷◌, ◌++◌, length, get_or}
+use Rattle.std.specs.Prelude.{filter}
 use Rattle.std.specs.List.{range_with_len}
 use Rattle.std.proofs.lemmas.List.{map-id, append-nil}
 use Rattle.std.proofs.lemmas.List.FromFn.{map-range_with_len_more}
@@ -8,9 +8,8 @@ use Rattle.std.proofs.lemmas.List.Elements.{filter-append, All-cons, All-nil}
 use Rattle.ntfe_nums.specs.Vectors.{Vector, origin, Precedes}
 use Rattle.ntfe_model.specs.Lists.{IsListing}
 use Rattle.ntfe_model.specs.Pairs.{VertexLists, entry}
-use Rattle.ntfe_model.specs.Points.{IsPointOf, IsInside, is_tight, facets_through}
-use Rattle.ntfe_model.specs.declared.point.Point.{Point}
-use Rattle.ntfe_model.proofs.Listings.{Contains-here, Contains-none}
+use Rattle.ntfe_model.specs.Points.{IsInside, is_tight, facets_through}
+use Rattle.ntfe_model.proofs.Listings.{Contains-here}
 use Rattle.lattice_points.specs.Scans.{IsPointWith}
 
 range_more : (a n : ℕ) → range_with_len a (n + 1) ≡ range_with_len a n ++ (a + n) ∷ []

@@ -1,9 +1,9 @@
 -- The sums of a line, and the steps of its intervals.
-use Rattle.std.proofs.Common.{◌≡◌, ℕ, ◌+◌, ◌*◌, ◌^◌, ◌<◌, ◌≤◌, refl, sym, ap, ◌∙◌, subst, arith, ℤ, pos, negsuc, ◌+ℤ◌, ◌*ℤ◌, ◌≤ℤ◌, List, [], ◌∷◌, length, take, get_or, unsigned_abs, w64, to_z, of_z, FitsSigned, length-take, get_or-take}
+use Rattle.std.proofs.Common.{◌≡◌, ℕ, ◌+◌, ◌^◌, ◌<◌, ◌≤◌, refl, sym, ap, ◌∙◌, subst, arith, ℤ, pos, negsuc, ◌+ℤ◌, ◌*ℤ◌, ◌≤ℤ◌, List, [], ◌∷◌, length, take, get_or, unsigned_abs, w64, to_z, of_z, FitsSigned, length-take, get_or-take}
 use Rattle.std.specs.Prelude.{All, ◌↔◌}
 use Rattle.std.proofs.lemmas.Int.{ints}
 use Rattle.std.proofs.lemmas.List.{take_all, get_or_read}
-use Rattle.std.proofs.lemmas.List.Elements.{All-more, All-take, All-same}
+use Rattle.std.proofs.lemmas.List.Elements.{All-more, All-take}
 use Rattle.ntfe_nums.specs.Sizes.{AreWithin}
 use Rattle.ntfe_nums.specs.Vectors.{Vector, numbers, origin, dot}
 use Rattle.ntfe_nums.proofs.Ring.{Expression}
@@ -13,7 +13,7 @@ use Rattle.ntfe_model.specs.Pairs.{IsSmall}
 use Rattle.lattice_points.proofs.CutLemmas.{short_back}
 use Rattle.lattice_points.specs.declared.bounds.Extent.{Extent}
 use Rattle.lattice_points.specs.Boxes.{IsWithin}
-use Rattle.lattice_points.specs.Lines.{place, head_sum, IsOpen}
+use Rattle.lattice_points.specs.Lines.{head_sum, IsOpen}
 
 short : (z : ℤ) → negsuc 1022 ≤ℤ z → z ≤ℤ pos 1023 → unsigned_abs z ≤ 1023
 short z h k = omega (arith, ints)

@@ -1,5 +1,5 @@
 -- One part of the way after the other: what they add together.
-use Rattle.std.proofs.Common.{◌≡◌, ℕ, ◌+◌, ◌<◌, ◌≤◌, ◌⊎◌, inl, inr, ⊎_elim, refl, sym, ap, ◌∙◌, subst, arith, ℤ, pos, ◌*◌, ◌^◌, Bool, true, false, ◌+ℤ◌, ◌-ℤ◌, ◌*ℤ◌, ◌≤ℤ◌, unsigned_abs, w64, to_z, of_z, List, [], ◌∷◌, ◌++◌, length, append_assoc, length-append, Ordering}
+use Rattle.std.proofs.Common.{◌≡◌, ℕ, ◌+◌, ◌<◌, ◌≤◌, ◌⊎◌, inl, inr, ⊎_elim, refl, sym, ap, ◌∙◌, subst, arith, ℤ, pos, ◌*◌, ◌^◌, true, false, ◌+ℤ◌, ◌-ℤ◌, ◌*ℤ◌, ◌≤ℤ◌, unsigned_abs, w64, to_z, of_z, List, [], ◌∷◌, ◌++◌, length, append_assoc, length-append, Ordering}
 use Rattle.std.proofs.Common.{Result, Ok, Err}
 use Rattle.std.specs.Prelude.{is_ok, ◌<ℤ◌, IfOk, OnOk, IfErr, OnErr}
 use Rattle.lattice_points.specs.declared.fault.PointFault.{PointFault}
@@ -23,7 +23,7 @@ use Rattle.ntfe_model.proofs.Listings.{AllPairs-append}
 use Rattle.lattice_points.specs.declared.found.Found.{Found}
 use Rattle.lattice_points.specs.declared.bounds.Extent.{Extent}
 use Rattle.lattice_points.proofs.CutLemmas.{product_rises, short_back, not_past, past}
-use Rattle.lattice_points.specs.Scans.{IsAnywhere, IsOnPlane, IsOnLine, IsInColumn, IsBelow, IsPointWith, Adds}
+use Rattle.lattice_points.specs.Scans.{IsAnywhere, IsBelow, IsPointWith, Adds}
 
 -- ---- listings
 

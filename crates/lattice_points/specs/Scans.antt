@@ -1,5 +1,5 @@
 -- What a part of the way through the box adds to the points found.
-use Rattle.std.specs.Prelude.{◌≡◌, ℕ, ◌+◌, ◌≤◌, ℤ, ◌<ℤ◌, List, ◌++◌, length}
+use Rattle.std.specs.Prelude.{◌≡◌, ◌+◌, ◌≤◌, ℤ, ◌<ℤ◌, List, ◌++◌, length}
 use Rattle.ntfe_nums.specs.Vectors.{Vector, Precedes}
 use Rattle.ntfe_model.specs.Lists.{IsListing}
 use Rattle.ntfe_model.specs.Pairs.{VertexLists}

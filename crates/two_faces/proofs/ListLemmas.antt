@@ -1,11 +1,11 @@
 -- One part of the pairs of facets after the other: what they add together.
-use Rattle.std.proofs.Common.{◌≡◌, ℕ, ◌+◌, ◌-◌, ◌<◌, ◌≤◌, ◌⊎◌, inl, inr, ⊎_elim, Bool, filter, get_or, refl, sym, ap, ◌∙◌, subst, arith, List, [], ◌∷◌, ◌++◌, length, append_assoc}
+use Rattle.std.proofs.Common.{◌≡◌, ℕ, ◌+◌, ◌-◌, ◌<◌, ◌≤◌, ◌⊎◌, inl, inr, ⊎_elim, filter, get_or, refl, sym, ap, ◌∙◌, subst, arith, List, [], ◌∷◌, ◌++◌, length, append_assoc}
 use Rattle.std.specs.Prelude.{All, Any, ◌&&◌}
 use Rattle.std.specs.List.{range_with_len}
 use Rattle.std.proofs.lemmas.List.{append-nil, get_or_read}
 use Rattle.std.proofs.lemmas.List.Elements.{All-cons, All-nil}
 use Rattle.ntfe_nums.specs.Vectors.{Vector, origin}
-use Rattle.ntfe_model.specs.Lists.{IsListing, IsBefore2}
+use Rattle.ntfe_model.specs.Lists.{IsBefore2}
 use Rattle.ntfe_model.specs.Pairs.{VertexLists, entry}
 use Rattle.ntfe_model.specs.Points.{IsFaceOf, AreFaces, MeetInTwoFace, points_on_both, place_of_point, no_point, is_tight}
 use Rattle.ntfe_model.specs.declared.face.Face.{Face}

@@ -1,5 +1,5 @@
 -- Two facets meet in a two-face where a first, a second and a third vertex are found.
-use Rattle.std.proofs.Common.{◌≡◌, ℕ, ◌+◌, ◌<◌, ◌≤◌, List, length, Bool, true, negsuc}
+use Rattle.std.proofs.Common.{◌≡◌, ℕ, ◌<◌, ◌≤◌, List, length, true, negsuc}
 use Rattle.std.specs.Prelude.{All, Any, Contains}
 use Rattle.std.proofs.lemmas.List.Elements.{All-contains}
 use Rattle.std.proofs.lemmas.Bool.Decides.{Decides-int_eq}
@@ -7,7 +7,7 @@ use Rattle.ntfe_nums.specs.Vectors.{Vector, dot}
 use Rattle.ntfe_model.specs.Pairs.{VertexLists, entry}
 use Rattle.ntfe_model.specs.Points.{MeetInTwoFace, is_tight}
 use Rattle.ntfe_model.specs.Reflexive.{IsTight}
-use Rattle.two_faces.specs.Meets.{IsOnBoth, IsThird, IsSecond, IsFirst}
+use Rattle.two_faces.specs.Meets.{IsThird, IsSecond, IsFirst}
 
 contained : {X : Type 0} (P : X → Type 0) (xs : List X) (h : Any P xs) → Contains xs h.1
 contained P xs h = (h.0, h.2, h.3)

@@ -1,11 +1,11 @@
 -- Areas in two coordinates.
-use Rattle.std.proofs.Common.{◌≡◌, ◌≢◌, ℕ, zero, suc, ◌+◌, ◌-◌, ◌<◌, ◌≤◌, Bool, true, false, not, eqb, refl, sym, ap, ◌∙◌, subst, arith, ℤ, pos, ◌-ℤ◌, List, [], ◌∷◌, get_or, unsigned_abs, w64, to_z, of_z, to_z-of_z, FitsSigned}
+use Rattle.std.proofs.Common.{◌≡◌, ◌≢◌, ℕ, zero, suc, ◌+◌, ◌-◌, ◌<◌, ◌≤◌, true, false, not, eqb, refl, sym, ap, ◌∙◌, arith, ℤ, pos, ◌-ℤ◌, List, [], ◌∷◌, get_or, w64, to_z, of_z, to_z-of_z, FitsSigned}
 use Rattle.std.proofs.lemmas.Bool.Decides.{nat_tests}
 use Rattle.ntfe_nums.specs.Sizes.{AreWithin}
 use Rattle.ntfe_nums.specs.Vectors.{Vector, numbers, det2, area}
 use Rattle.ntfe_nums.proofs.Ring.{Expression}
 use Rattle.ntfe_nums.proofs.Ring.Expression.{var, minus, times}
-use Rattle.ntfe_nums.proofs.Machine.{machine, raw, exact, fits, AreBounded, AreWithin-four}
+use Rattle.ntfe_nums.proofs.Machine.{raw, exact, fits, AreBounded, AreWithin-four}
 use Rattle.ntfe_model.specs.Points.{SpanPlane}
 
 -- the area of three lists of coordinates at two places

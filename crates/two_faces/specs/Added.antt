@@ -1,5 +1,5 @@
 -- What a part of the pairs of facets adds to a list of two-faces.
-use Rattle.std.specs.Prelude.{◌≡◌, ℕ, ◌<◌, ◌≤◌, List, ◌++◌}
+use Rattle.std.specs.Prelude.{◌≡◌, ℕ, List, ◌++◌}
 use Rattle.ntfe_model.specs.Lists.{IsListing, IsBefore2}
 use Rattle.ntfe_model.specs.Pairs.{VertexLists}
 use Rattle.ntfe_model.specs.Points.{IsFaceOf}

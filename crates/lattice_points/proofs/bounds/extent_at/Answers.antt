@@ -1,4 +1,4 @@
-use Rattle.std.proofs.Common.{◌≡◌, ◌<◌, length, ◌∙◌, sym, ap, subst, arith, take, ℤ, pos, ◌≤ℤ◌, get_or, w64, to_z, of_z, to_z-of_z, FitsSigned, rules}
+use Rattle.std.proofs.Common.{◌≡◌, ◌<◌, length, ◌∙◌, sym, ap, arith, take, ℤ, pos, ◌≤ℤ◌, get_or, w64, to_z, of_z, to_z-of_z, FitsSigned, rules}
 use Rattle.std.specs.Int.{int_min, int_max}
 use Rattle.std.proofs.lemmas.List.{take_all}
 use Rattle.std.proofs.lemmas.List.Elements.{All-same}

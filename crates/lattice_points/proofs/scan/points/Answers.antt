@@ -1,8 +1,4 @@
-use Rattle.std.proofs.Common.{◌≡◌, ◌≤◌, subst, arith, pos, ◌≤ℤ◌, List}
-use Rattle.std.proofs.lemmas.Int.{ints}
-use Rattle.ntfe_nums.specs.Vectors.{Vector}
-use Rattle.lattice_points.specs.Boxes.{AreBoundsOf}
-use Rattle.lattice_points.specs.Faults.{HasFewColumns, HasColumnsOver}
+use Rattle.lattice_points.specs.Faults.{HasFewColumns}
 use Rattle.lattice_points.specs.Scans.{Adds, IsAnywhere}
 use Rattle.lattice_points.proofs.BoxLemmas.{few_columns, many_columns}
 use Rattle.lattice_points.proofs.ScanLemmas.{points_from, cause_from, ok_from, from_ok}

@@ -1,4 +1,4 @@
-use Rattle.std.proofs.Common.{◌≡◌, ◌≤◌, ◌∙◌, sym, arith, w64, to_z, of_z, ◌^◌}
+use Rattle.std.proofs.Common.{◌≤◌, arith, w64, to_z, ◌^◌}
 use Rattle.lattice_points.specs.Scans.{IsAnywhere, IsOnPlane}
 use Rattle.lattice_points.proofs.CutLemmas.{end_fits}
 use Rattle.lattice_points.proofs.BoxLemmas.{first_small, extent_size, extent_span, extent_low, extent_high}

@@ -1,4 +1,3 @@
-use Rattle.std.proofs.Common.{◌^◌}
 use Rattle.lattice_points.specs.Scans.{IsInColumn}
 use Rattle.lattice_points.proofs.ScanLemmas.{Sweeps}
 use Rattle.lattice_points.proofs.scan.scan_column.Given as goal

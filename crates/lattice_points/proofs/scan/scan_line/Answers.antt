@@ -1,9 +1,8 @@
 use Rattle.std.proofs.Common.{◌≡◌, ◌≤◌, ◌^◌, ◌∙◌, sym, subst, arith, ℤ, List, unsigned_abs, w64, to_z, of_z, to_z-of_z}
-use Rattle.std.specs.Prelude.{All, ◌↔◌}
+use Rattle.std.specs.Prelude.{◌↔◌}
 use Rattle.std.proofs.lemmas.List.Elements.{All-same}
 use Rattle.ntfe_nums.specs.Vectors.{Vector}
 use Rattle.ntfe_model.specs.Pairs.{IsSmall}
-use Rattle.ntfe_model.specs.Points.{IsInside}
 use Rattle.lattice_points.specs.Boxes.{IsWithin}
 use Rattle.lattice_points.specs.Lines.{place, IsOpen}
 use Rattle.lattice_points.specs.Scans.{IsOnLine, IsInColumn, Adds}

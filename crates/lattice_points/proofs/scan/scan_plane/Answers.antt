@@ -1,4 +1,4 @@
-use Rattle.std.proofs.Common.{◌≡◌, ◌≤◌, ◌^◌, subst, sym, ◌∙◌, arith, ℤ, w64, to_z, of_z, to_z-of_z}
+use Rattle.std.proofs.Common.{◌≤◌, ◌^◌, subst, sym, ◌∙◌, arith, ℤ, w64, to_z, of_z, to_z-of_z}
 use Rattle.lattice_points.specs.Scans.{IsOnPlane, IsOnLine, Adds}
 use Rattle.lattice_points.proofs.CutLemmas.{end_fits}
 use Rattle.lattice_points.proofs.BoxLemmas.{second_small, extent_size, extent_span, extent_low, extent_high}

@@ -1,4 +1,4 @@
-use Rattle.std.proofs.Common.{[], ◌∙◌, ap, arith, length, ◌≤◌, sym}
+use Rattle.std.proofs.Common.{[], ap, arith, length}
 use Rattle.two_faces.proofs.ListLemmas.{row_step, rows_end}
 use Rattle.two_faces.proofs.list.faces.Goals as goal
 

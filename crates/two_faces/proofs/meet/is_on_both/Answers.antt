@@ -1,4 +1,4 @@
-use Rattle.std.proofs.Common.{◌≡◌, ◌∙◌, sym}
+use Rattle.std.proofs.Common.{◌∙◌, sym}
 use Rattle.two_faces.proofs.MeetLemmas.{tight_from}
 use Rattle.two_faces.proofs.meet.is_on_both.Goals as goal
 

@@ -1,5 +1,4 @@
-use Rattle.std.proofs.Common.{◌≡◌, ◌≢◌, ◌∙◌, sym, refl, w64, pos}
-use Rattle.ntfe_nums.specs.Vectors.{numbers, area}
+use Rattle.std.proofs.Common.{◌∙◌, sym, refl, w64}
 use Rattle.ntfe_nums.proofs.Ring.Expression.{var, minus}
 use Rattle.ntfe_nums.proofs.Machine.{fits}
 use Rattle.lattice_points.proofs.LineLemmas.{small_numbers}

@@ -1,10 +1,5 @@
-use Rattle.std.proofs.Common.{◌≡◌, ◌<◌, ◌≤◌, ◌^◌, ◌∙◌, length, sym, ap, subst, ℤ, pos, ◌+ℤ◌, ◌*ℤ◌, ◌≤ℤ◌, negsuc, get_or, arith, unsigned_abs, w64, to_z, of_z, to_z-of_z, FitsSigned, List, ◌∷◌, []}
+use Rattle.std.proofs.Common.{◌∙◌, sym, ap, subst, ℤ, pos, ◌+ℤ◌, ◌*ℤ◌, get_or, w64, to_z, of_z, to_z-of_z}
 use Rattle.std.specs.Prelude.{◌↔◌}
-use Rattle.std.proofs.lemmas.Int.{ints}
-use Rattle.ntfe_nums.specs.Vectors.{Vector, origin, numbers, dot}
-use Rattle.ntfe_nums.proofs.Ring.Expression.{var, plus, times}
-use Rattle.ntfe_nums.proofs.Machine.{machine}
-use Rattle.lattice_points.specs.declared.bounds.Extent.{Extent}
 use Rattle.lattice_points.specs.Boxes.{IsWithin}
 use Rattle.lattice_points.specs.Lines.{place, head_sum, IsOpen}
 use Rattle.lattice_points.proofs.CutLemmas.{cut_same, empty_extent}

@@ -1,4 +1,4 @@
-use Rattle.std.proofs.Common.{◌≡◌, ◌^◌, ℤ, pos, take, [], ◌∷◌}
+use Rattle.std.proofs.Common.{◌^◌, ℤ, take, [], ◌∷◌}
 use Rattle.std.specs.Prelude.{◌↔◌}
 use Rattle.ntfe_nums.specs.Sizes.{AreWithin}
 use Rattle.lattice_points.specs.Boxes.{IsWithin}

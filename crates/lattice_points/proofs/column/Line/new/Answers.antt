@@ -1,4 +1,4 @@
-use Rattle.std.proofs.Common.{◌≡◌, ◌<◌, to_z-of_z, ◌∙◌, length, sym, ap, ℤ, pos, get_or, get_or-set_other, get_or-set_same, length-set, below_more, arith, ◌≢◌}
+use Rattle.std.proofs.Common.{◌≡◌, ◌<◌, to_z-of_z, ◌∙◌, length, sym, get_or, get_or-set_other, get_or-set_same, length-set, below_more, arith, ◌≢◌}
 use Rattle.ntfe_nums.specs.Vectors.{origin}
 use Rattle.lattice_points.specs.Lines.{head_sum}
 use Rattle.lattice_points.proofs.LineLemmas.{small_at, same_at, head_fits, head_is}

@@ -1,4 +1,4 @@
-use Rattle.std.proofs.Common.{◌≡◌, ◌<◌, ◌≤◌, ◌∙◌, sym, ap, length, arith, [], ◌∷◌, ◌++◌, refl}
+use Rattle.std.proofs.Common.{◌∙◌, sym, ap, length, arith, [], ◌∷◌, ◌++◌, refl}
 use Rattle.std.proofs.lemmas.List.{append-nil}
 use Rattle.ntfe_model.specs.Points.{facets_through}
 use Rattle.lattice_points.proofs.FoundLemmas.{listing_none, listing_one}
@@ -42,5 +42,5 @@ returns-else-self-le-POINT_LIMIT-clause-adds c =
       added = record { place = c.args.place; facets = c.in_ok-facets.facets.items } ∷ [];
       listing = listing_one c.args.pair.now c.args.place c.in_ok-facets.facets.items e (omega arith) c.requires.inside;
       count = refl;
-      kept = λ h. absurd (omega arith);
+      kept = λ h. (let none : ⊥ = omega arith in absurd none);
     }
