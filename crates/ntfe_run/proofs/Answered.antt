@@ -2,14 +2,15 @@
 use Rattle.std.proofs.Common.{◌≡◌, refl, sym, ap, subst, ℕ, List, Result, Ok, Err, inr}
 use Rattle.std.specs.Prelude.{Option, IfErr}
 use Rattle.io_edge.proofs.Pieces.{prefix_all}
-use Rattle.io_edge.specs.Causes.{Rose}
 use Rattle.io_edge.specs.Lines.{WritesText}
 use Rattle.io_edge.specs.declared.line_fault.LineFault.{LineFault}
 use Rattle.io_edge.specs.declared.line_fault.LineFault.TheVariants as line
-use Rattle.ntfe_model.specs.Shapes.{Shape}
-use Rattle.ntfe_run.specs.Answers.{IsReady, answer_text, IsStatusOf, IsAnswer, IsReadInput, HasCommandCause, HasWritten}
+use Rattle.ntfe_model.specs.Shapes.{Shape, IsShape}
+use Rattle.ntfe_run.specs.Answers.{IsReady, answer_text, IsAnswerText, IsStatusOf, IsAnswer, IsReadInput, HasCommandCause, HasWritten}
 use Rattle.ntfe_run.specs.Messages.{TellsMessage}
 use Rattle.ntfe_run.specs.declared.command.Command.{Command}
+use Rattle.ntfe_run.proofs.OnlyClass.{is_run_text}
+use Rattle.ntfe_run.specs.declared.command.Command.TheVariants.{Classes, Faces}
 use Rattle.ntfe_run.specs.declared.status.Refusal.TheVariants as refusal
 use Rattle.ntfe_run.specs.declared.status.Status.{Status}
 use Rattle.ntfe_run.specs.declared.status.Status.TheVariants.{Done, Usage, Refused, Memory, ReadFault, WriteFault}
@@ -17,8 +18,13 @@ use Rattle.ntfe_run.specs.declared.status.Status.TheVariants.{Done, Usage, Refus
 pub answered : (command : Command) (g : Shape) (a b : Option (List ℕ)) (f h : ℕ) (r : Result (Unit {0}) LineFault) (s : Status)
     → IsReady command g → IsStatusOf r s → WritesText a b f h r (answer_text command g) → IsAnswer command g a b f h s
 answered command g a b f h (Ok done) s ready e w = let P : Status → Type 0 = IsAnswer command g a b f h in subst P (sym e) (ready, w.ok)
-answered command g a b f h (Err line.Write) s ready e w = let P : Status → Type 0 = IsAnswer command g a b f h in subst P (sym e) (w.err, w.cause refl)
-answered command g a b f h (Err line.Memory) s ready e w = let P : Status → Type 0 = IsAnswer command g a b f h in subst P (sym e) w.err
+answered command g a b f h (Err line.Write) s ready e w = let P : Status → Type 0 = IsAnswer command g a b f h in subst P (sym e) (ready, w.err, w.cause refl)
+answered command g a b f h (Err line.Memory) s ready e w = let P : Status → Type 0 = IsAnswer command g a b f h in subst P (sym e) (ready, w.err)
+
+-- what is written is what the command asks for
+answer_is : (command : Command) (g : Shape) → IsShape g → IsReady command g → IsAnswerText command g (answer_text command g)
+answer_is Classes g s ready = is_run_text g s ready
+answer_is Faces g s ready = refl
 
 module _ (command : Command) (g : Shape) (left left' : Option (List ℕ)) (source source' sink sink' : ℕ) (a b : Option (List ℕ)) (read : IsReadInput left left' g) where
   pub answer_cause : (s : Status) → IsAnswer command g a b sink sink' s → HasCommandCause command left left' source source' sink sink' s
@@ -29,19 +35,19 @@ module _ (command : Command) (g : Shape) (left left' : Option (List ℕ)) (sourc
   answer_cause (Refused (refusal.Pair fault)) h = absurd h
   answer_cause (Refused (refusal.Points fault)) h = absurd h
   answer_cause Memory h = tt
-  answer_cause WriteFault h = h.1
+  answer_cause WriteFault h = h.2
   answer_cause ReadFault h = absurd h
   answer_cause Usage h = absurd h
 
   pub answer_written : (s : Status) → IsAnswer command g a b sink sink' s → HasWritten command left left' a b s
-  answer_written Done h = (g, read, h.1)
+  answer_written Done h = record { input = g; read = read; text = answer_text command g; is = answer_is command g read.holds.shape h.0; all = h.1 }
   answer_written (Refused (refusal.Unready stage)) h = h.2
   answer_written (Refused (refusal.Size limit)) h = absurd h
   answer_written (Refused (refusal.Text fault)) h = absurd h
   answer_written (Refused (refusal.Pair fault)) h = absurd h
   answer_written (Refused (refusal.Points fault)) h = absurd h
-  answer_written Memory h = inr record { input = g; read = read; prefix = h }
-  answer_written WriteFault h = record { input = g; read = read; prefix = h.0 }
+  answer_written Memory h = inr record { input = g; read = read; text = answer_text command g; is = answer_is command g read.holds.shape h.0; prefix = h.1 }
+  answer_written WriteFault h = record { input = g; read = read; text = answer_text command g; is = answer_is command g read.holds.shape h.0; prefix = h.1 }
   answer_written ReadFault h = absurd h
   answer_written Usage h = absurd h
 

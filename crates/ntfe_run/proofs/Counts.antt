@@ -1,10 +1,8 @@
 -- How many two-faces there are at most.
-use Rattle.std.proofs.Common.{◌≡◌, ◌⊎◌, ⊎_elim, ℕ, suc, ◌+◌, ◌*◌, ◌<◌, ◌≤◌, List, [], ◌∷◌, length, arith}
+use Rattle.std.proofs.Common.{◌≡◌, ⊎_elim, ℕ, suc, ◌+◌, ◌*◌, ◌<◌, ◌≤◌, List, [], ◌∷◌, length, arith}
 use Rattle.std.specs.Prelude.{All, AllPairs}
-use Rattle.std.proofs.lemmas.List.Elements.{All-weaker}
 use Rattle.ntfe_model.specs.Lists.{IsBefore2}
 use Rattle.ntfe_model.specs.Shapes.{Shape, IsShape}
-use Rattle.ntfe_model.specs.Points.{IsFaceOf}
 use Rattle.ntfe_model.specs.declared.face.Face.{Face}
 use Rattle.ntfe_model.proofs.Listings.{AllPairs-head, AllPairs-tail}
 

@@ -1,3 +1,10 @@
 pub mod Answered
 pub mod Counts
+pub mod Crossing
+pub mod FaceTriangle
+pub mod NoRows
 pub mod NumberedLines
+pub mod OneItem
+pub mod OneTriangle
+pub mod OnlyClass
+pub mod TriangleFaces

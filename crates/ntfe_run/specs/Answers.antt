@@ -1,5 +1,5 @@
 -- What the answers of a run mean: when each comes, and what is written.
-use Rattle.std.specs.Prelude.{◌≡◌, ◌⊎◌, ℕ, List, [], ◌∷◌, codes, Option, Result, Ok, Err, ⊤}
+use Rattle.std.specs.Prelude.{◌≡◌, ◌⊎◌, ℕ, List, [], ◌∷◌, codes, Option, None, Result, Ok, Err, ⊤}
 use Rattle.std.specs.Io.KnownBytes.{Appends, Keeps}
 use Rattle.io_edge.specs.Causes.{Rose, AppendsPrefix}
 use Rattle.io_edge.specs.Reading.{ReadsAll, ReadsPast}
@@ -8,11 +8,12 @@ use Rattle.io_edge.specs.declared.line_fault.LineFault.TheVariants as line
 use Rattle.ntfe_model.specs.Shapes.{Shape}
 use Rattle.ntfe_model.specs.FacesText.{faces_text}
 use Rattle.ntfe_run.specs.Inputs.{IsInputOf, IsRefusalOf}
-use Rattle.ntfe_run.specs.PlainText.{AreTriangles, plain_text}
+use Rattle.ntfe_model.specs.RunText.{IsRunText, nothing_kept}
+use Rattle.ntfe_run.specs.PlainText.{AreTriangles, plain_form, plain_text}
 use Rattle.ntfe_run.specs.declared.command.Command.{Command}
 use Rattle.ntfe_run.specs.declared.command.Command.TheVariants.{Classes, Faces}
 use Rattle.ntfe_run.specs.declared.status.Refusal.{Refusal}
-use Rattle.ntfe_run.specs.declared.status.Refusal.TheVariants.{Size, Text, Pair, Points, Unready}
+use Rattle.ntfe_run.specs.declared.status.Refusal.TheVariants.{Size, Unready}
 use Rattle.ntfe_run.specs.declared.status.Status.{Status}
 use Rattle.ntfe_run.specs.declared.status.Status.TheVariants.{Done, Usage, Refused, Memory, ReadFault, WriteFault}
 
@@ -56,10 +57,15 @@ IsReadStop left left' faults faults' status = ⊥
 
 -- ---- the answer
 
--- what the command writes of the input
+-- what is written of the input
 abbrev pub answer_text : Command → Shape → List ℕ
 answer_text Classes g = plain_text g
 answer_text Faces g = faces_text g
+
+-- the text is what the command asks for: of `classes`, that of a run without an end, which lists exactly the extendable choices
+abbrev pub IsAnswerText : Command → Shape → List ℕ → Type 0
+IsAnswerText Classes g text = IsRunText g plain_form nothing_kept None text
+IsAnswerText Faces g text = text ≡ faces_text g
 
 -- the command can be answered: classes, where each two-face has three points
 abbrev pub IsReady : Command → Shape → Type 0
@@ -75,8 +81,8 @@ IsStatusOf (Err line.Memory) status = status ≡ Memory
 abbrev pub IsAnswer : Command → Shape → Option (List ℕ) → Option (List ℕ) → ℕ → ℕ → Status → Type 0
 IsAnswer command g taken taken' faults faults' Done = IsReady command g × Appends taken taken' (answer_text command g)
 IsAnswer command g taken taken' faults faults' (Refused (Unready stage)) = (stage ≡ 5) × ¬ (IsReady command g) × Keeps taken taken'
-IsAnswer command g taken taken' faults faults' Memory = AppendsPrefix taken taken' (answer_text command g)
-IsAnswer command g taken taken' faults faults' WriteFault = AppendsPrefix taken taken' (answer_text command g) × Rose faults faults'
+IsAnswer command g taken taken' faults faults' Memory = IsReady command g × AppendsPrefix taken taken' (answer_text command g)
+IsAnswer command g taken taken' faults faults' WriteFault = IsReady command g × AppendsPrefix taken taken' (answer_text command g) × Rose faults faults'
 IsAnswer command g taken taken' faults faults' status = ⊥
 
 -- when each status ends a command: the source's bytes and faults before and after, and the sink's faults
@@ -90,15 +96,25 @@ HasCommandCause command left left' source source' sink sink' ReadFault = Rose so
 HasCommandCause command left left' source source' sink sink' WriteFault = Rose sink sink'
 HasCommandCause command left left' source source' sink sink' Usage = ⊥
 
+-- the input was read, and all of its answer was taken
+pub record TakesAll (command : Command) (left left' taken taken' : Option (List ℕ)) : Type 0 where
+  pub input : Shape
+  pub read : IsReadInput left left' input
+  pub text : List ℕ
+  pub is : IsAnswerText command input text
+  pub all : Appends taken taken' text
+
 -- the input was read, and a prefix of its answer was taken
 pub record TakesPart (command : Command) (left left' taken taken' : Option (List ℕ)) : Type 0 where
   pub input : Shape
   pub read : IsReadInput left left' input
-  pub prefix : AppendsPrefix taken taken' (answer_text command input)
+  pub text : List ℕ
+  pub is : IsAnswerText command input text
+  pub prefix : AppendsPrefix taken taken' text
 
 -- what the sink took: the whole answer, where all was done; else nothing, or a prefix of the answer
 abbrev pub HasWritten : Command → Option (List ℕ) → Option (List ℕ) → Option (List ℕ) → Option (List ℕ) → Status → Type 0
-HasWritten command left left' taken taken' Done = (g : Shape) × IsReadInput left left' g × Appends taken taken' (answer_text command g)
+HasWritten command left left' taken taken' Done = TakesAll command left left' taken taken'
 HasWritten command left left' taken taken' Memory = Keeps taken taken' ⊎ TakesPart command left left' taken taken'
 HasWritten command left left' taken taken' WriteFault = TakesPart command left left' taken taken'
 HasWritten command left left' taken taken' status = Keeps taken taken'
