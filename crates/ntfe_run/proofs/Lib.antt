@@ -1,7 +1,9 @@
 pub mod Answered
+pub mod Completeness
 pub mod Counts
 pub mod Crossing
 pub mod FaceTriangle
+pub mod InputsFixed
 pub mod NoRows
 pub mod NumberedLines
 pub mod OneItem

@@ -1,5 +1,5 @@
 -- What the answers of a run mean: when each comes, and what is written.
-use Rattle.std.specs.Prelude.{◌≡◌, ◌⊎◌, ℕ, List, [], ◌∷◌, codes, Option, None, Result, Ok, Err, ⊤}
+use Rattle.std.specs.Prelude.{◌≡◌, ◌⊎◌, ℕ, List, [], ◌∷◌, codes, ◌≤◌, length, Option, None, Some, Result, Ok, Err, ⊤}
 use Rattle.std.specs.Io.KnownBytes.{Appends, Keeps}
 use Rattle.io_edge.specs.Causes.{Rose, AppendsPrefix}
 use Rattle.io_edge.specs.Reading.{ReadsAll, ReadsPast}
@@ -131,3 +131,18 @@ HasAnswerCause words left left' source source' sink sink' status =
 abbrev pub HasRunText : List (List ℕ) → Option (List ℕ) → Option (List ℕ) → Option (List ℕ) → Option (List ℕ) → Status → Type 0
 HasRunText words left left' taken taken' Usage = Keeps taken taken'
 HasRunText words left left' taken taken' status = (command : Command) × IsCommand words command × HasWritten command left left' taken taken' status
+
+-- the words ask for what the command is ready for: the source tells its bytes, which are an input of at most 65536 bytes
+pub record HasAnswer (words : List (List ℕ)) (left : Option (List ℕ)) : Type 0 where
+  pub command : Command
+  pub means : IsCommand words command
+  pub bytes : List ℕ
+  pub holds : left ≡ Some bytes
+  pub few : length bytes ≤ input_limit
+  pub input : Shape
+  pub is : IsInputOf bytes input
+  pub ready : IsReady command input
+
+-- then all is done, unless a count of faults rose or memory ran out
+abbrev pub IsComplete : List (List ℕ) → Option (List ℕ) → ℕ → ℕ → ℕ → ℕ → Status → Type 0
+IsComplete words left source source' sink sink' status = HasAnswer words left → ¬ (Rose source source') → ¬ (Rose sink sink') → (status ≡ Done) ⊎ (status ≡ Memory)

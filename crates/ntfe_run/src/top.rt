@@ -1,6 +1,6 @@
 //! The top call.
 ghost use Rattle.std.specs.Prelude.{◌≤◌, map, string_bytes, IfOk, IfErr};
-ghost use Rattle.ntfe_run.specs.Answers.{IsReadInput, IsReadStop, HasCommandCause, HasWritten, IsStatusOf, IsAnswer, HasAnswerCause, HasRunText};
+ghost use Rattle.ntfe_run.specs.Answers.{IsReadInput, IsReadStop, HasCommandCause, HasWritten, IsStatusOf, IsAnswer, HasAnswerCause, HasRunText, IsComplete};
 ghost use Rattle.ntfe_run.specs.Messages.{message_line, TellsMessage};
 
 use crate::classes::{are_triangles, write_classes};
@@ -115,6 +115,7 @@ pub fn run_alone<S: Source, K: Sink, E: Sink>(
 ) -> Status
     ensures cause { HasAnswerCause (map string_bytes words.now) (S.left source.old) (S.left source.new) (S.faults source.old) (S.faults source.new) (K.faults out.old) (K.faults out.new) result }
     ensures text { HasRunText (map string_bytes words.now) (S.left source.old) (S.left source.new) (K.taken out.old) (K.taken out.new) result }
+    ensures complete { IsComplete (map string_bytes words.now) (S.left source.old) (S.faults source.old) (S.faults source.new) (K.faults out.old) (K.faults out.new) result }
     ensures message { TellsMessage (E.taken err.old) (E.taken err.new) (E.faults err.old) (E.faults err.new) (message_line result) }
 {
     let status = answer(alloc, words, source, out);
@@ -134,6 +135,7 @@ pub fn run<R: Threads + Wait + Sync, S: Source, K: Sink, E: Sink, G: Gate + Sync
 ) -> Status
     ensures cause { HasAnswerCause (map string_bytes words.now) (S.left source.old) (S.left source.new) (S.faults source.old) (S.faults source.new) (K.faults out.old) (K.faults out.new) result }
     ensures text { HasRunText (map string_bytes words.now) (S.left source.old) (S.left source.new) (K.taken out.old) (K.taken out.new) result }
+    ensures complete { IsComplete (map string_bytes words.now) (S.left source.old) (S.faults source.old) (S.faults source.new) (K.faults out.old) (K.faults out.new) result }
     ensures message { TellsMessage (E.taken err.old) (E.taken err.new) (E.faults err.old) (E.faults err.new) (message_line result) }
 {
     run_alone(alloc, words, source, out, err)
