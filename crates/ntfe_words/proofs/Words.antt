@@ -1,5 +1,6 @@
 -- Words, taken one after another.
-use Rattle.std.proofs.Common.{◌≡◌, ℕ, suc, ◌+◌, ◌<◌, List, [], ◌∷◌, ◌++◌, length, get_or, drop, map, codes, Bor, subst, ◌≤◌, zero, Option, Some, None, Result, Err, ap, ◌∙◌, sym, arith, add-one, drop-cons}
+use Rattle.std.proofs.Common.{◌≡◌, ℕ, suc, ◌+◌, ◌<◌, List, [], ◌∷◌, length, get_or, drop, map, Bor, subst, ◌≤◌, zero, Option, Err, ap, ◌∙◌, sym, arith, add-one, drop-cons}
+use Rattle.std.proofs.lemmas.List.{length-map}
 use Rattle.ntfe_words.specs.CommandLine.{Text, reading}
 use Rattle.ntfe_words.specs.Readers.{reading_now, settings_now, whole_reading}
 use Rattle.ntfe_words.specs.Reads.{TakesWord, IsRead, IsCommandOf}
@@ -33,9 +34,7 @@ text-at f (y ∷ xs) zero x h is = ap f is
 text-at f (y ∷ xs) (suc i) x h is = text-at f xs i x (omega arith) is
 
 pub text-within : {X : Type 0} (f : X → Text) (xs : List X) (i : ℕ) → i < length xs → i < length (map f xs)
-text-within f [] i h = absurd (omega arith)
-text-within f (x ∷ xs) zero h = omega arith
-text-within f (x ∷ xs) (suc i) h = omega (arith, text-within f xs i (omega arith))
+text-within f xs i h = rw length-map h
 
 two-plains : (ws : List (Bor Text)) (d : Bor Text) (first : Text) → 2 ≤ length ws → length ws < 3 → (get_or ws 0 d).now ≡ first
     → map (λ w. w.now) ws ≡ first ∷ (get_or ws 1 d).now ∷ []

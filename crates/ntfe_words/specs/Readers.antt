@@ -1,5 +1,5 @@
 -- What the parts of the reader stand for in the definitions.
-use Rattle.std.specs.Prelude.{◌≡◌, ◌≤◌, ℕ, List, [], ◌∷◌, ◌++◌, length, map, Option, Some, None, option_map}
+use Rattle.std.specs.Prelude.{◌≡◌, ◌≤◌, List, [], ◌∷◌, ◌++◌, length, map, Option, Some, None, option_map}
 use Rattle.ntfe_words.specs.CommandLine.{Text, Setting, Reading, reading_behind, separator, plain, whole, awaiting, meaningless}
 use Rattle.ntfe_words.specs.CommandLine.{Kind as WordKind}
 use Rattle.ntfe_words.specs.declared.setting.Setting.{Setting as Given}

@@ -1,5 +1,5 @@
 -- What reading gives, or why it stops.
-use Rattle.std.specs.Prelude.{◌≡◌, ℕ, List, ◌∷◌, Option, Some, None, Result, Ok, Err, ⊤}
+use Rattle.std.specs.Prelude.{◌≡◌, List, ◌∷◌, Option, Some, None, Result, Ok, Err, ⊤}
 use Rattle.ntfe_words.specs.CommandLine.{Text, Reading, reading, IsMeaningOf}
 use Rattle.ntfe_words.specs.Readers.{reading_now, whole_reading}
 use Rattle.ntfe_words.specs.declared.command.Command.{Command}

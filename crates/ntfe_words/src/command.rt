@@ -27,9 +27,5 @@ pub enum Command {
     /// List the points and two-faces.
     Faces,
     /// List the classes of the product of polygon 1 and the polygon of this number, from 1 to 5.
-    Demo {
-        number: u8,
-        workers: u16,
-        width: u8,
-    },
+    Demo { number: u8, workers: u16, width: u8 },
 }

@@ -14,5 +14,5 @@ pub use command::{Command, Options};
 pub use fault::WordFault;
 pub use meaning::read_words;
 
-
-
+#[cfg(test)]
+mod tests;

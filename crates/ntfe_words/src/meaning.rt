@@ -15,6 +15,7 @@ use std::alloc::Global;
 /// The command that the words mean, without the program's name; `Usage` exactly where they have no meaning, or `Memory`.
 pub fn read_words(alloc: Global, words: &[String]) -> Result<Command, WordFault>
     ensures meaning { IfOk result (λ command. IsMeaning (map string_bytes words.now) command) }
+    ensures only { IfOk result (λ command. (other : Command) → IsMeaning (map string_bytes words.now) other → other ≡ command) }
     ensures usage { result ≡ Err WordFault.Usage → ¬ (HasMeaning (map string_bytes words.now)) }
 {
     let reader = read(alloc, words)?;

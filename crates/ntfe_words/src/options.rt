@@ -9,7 +9,13 @@ use crate::setting::{Setting, Uses, uses_of};
 use ntfe_model::Push;
 
 /// The number of the option of this name: `default` where it is not given, else one from `low` to `high`.
-fn number_setting(settings: &[Setting], name: &[u8], default: u32, low: u32, high: u32) -> Option<u32>
+fn number_setting(
+    settings: &[Setting],
+    name: &[u8],
+    default: u32,
+    low: u32,
+    high: u32,
+) -> Option<u32>
     requires { default ≤ high }
     ensures value { result ≡ number_of default low high name.now (settings_now settings.now) }
     ensures bound { IfSome result (λ n. n ≤ high) }

@@ -1,7 +1,7 @@
 use Rattle.std.proofs.Common.{rules, tests, ◌∙◌}
 use Rattle.std.proofs.lemmas.Iterator.{YieldsList-from_slice}
 use Rattle.std.proofs.lemmas.Iterator.Search.{all_from_yields_List}
-use Rattle.ntfe_words.specs.CommandLine.{is_option, is_demo_option}
+use Rattle.ntfe_words.specs.CommandLine.{is_option}
 use Rattle.ntfe_words.proofs.Settings.{all-of-settings}
 use Rattle.ntfe_words.proofs.options.are_of_classes.Goals as goal
 
