@@ -6,8 +6,8 @@ use Rattle.ntfe_words.specs.declared.setting.Setting.{Setting as Given}
 use Rattle.ntfe_words.specs.declared.kind.Kind.{Kind}
 use Rattle.ntfe_words.specs.declared.kind.Kind.TheVariants as kind
 use Rattle.ntfe_words.specs.declared.reader.Reader.{Reader}
-use Rattle.ntfe_words.specs.declared.reader.Stand.{Stand}
-use Rattle.ntfe_words.specs.declared.reader.Stand.TheVariants.{Open, Value, Closed}
+use Rattle.ntfe_words.specs.declared.reader.NextWord.{NextWord}
+use Rattle.ntfe_words.specs.declared.reader.NextWord.TheVariants.{Any, ValueOf, Plain}
 use Rattle.ntfe_words.specs.declared.setting.Uses.{Uses}
 use Rattle.ntfe_words.specs.declared.setting.Uses.TheVariants.{Never, Once, Again}
 
@@ -38,11 +38,12 @@ reading_now r = record { plains = map (λ w. w.now) r.plains.items; settings = s
 abbrev pub joined : Reading → Reading → Reading
 joined front back = record { plains = front.plains ++ back.plains; settings = front.settings ++ back.settings }
 
-abbrev pub reading_from : Stand → List Text → Option Reading
-reading_from Open words = reading_behind words None
-reading_from (Value name) words = reading_behind words (Some name.now)
-reading_from Closed words = Some (record { plains = words; settings = [] })
+-- the words to come
+abbrev pub reading_from : NextWord → List Text → Option Reading
+reading_from Any words = reading_behind words None
+reading_from (ValueOf name) words = reading_behind words (Some name.now)
+reading_from Plain words = Some (record { plains = words; settings = [] })
 
 -- the reading of all words, where these are still to come
 abbrev pub whole_reading : Reader → List Text → Option Reading
-whole_reading r words = option_map (joined (reading_now r)) (reading_from r.stand words)
+whole_reading r words = option_map (joined (reading_now r)) (reading_from r.next words)

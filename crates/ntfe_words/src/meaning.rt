@@ -1,6 +1,6 @@
 //! The command that words mean.
-ghost use Rattle.std.specs.Prelude.{◌≡◌, ℕ, [], ◌∷◌, codes, map, string_bytes, IfOk, Err};
-ghost use Rattle.ntfe_words.specs.CommandLine.{Reading, IsMeaning, HasMeaning};
+ghost use Rattle.std.specs.Prelude.{◌≡◌, [], ◌∷◌, codes, map, string_bytes, IfOk};
+ghost use Rattle.ntfe_words.specs.CommandLine.{IsMeaning, HasMeaning};
 ghost use Rattle.ntfe_words.specs.Readers.{settings_now, reading_now};
 ghost use Rattle.ntfe_words.specs.Reads.{IsCommandOf};
 

@@ -1,5 +1,5 @@
 //! Numbers in words.
-ghost use Rattle.std.specs.Prelude.{◌≡◌, Some, None, min, if◌then◌else◌, ◌<◌, ◌≤◌, ◌^◌, IfSome};
+ghost use Rattle.std.specs.Prelude.{◌≡◌, min, if◌then◌else◌};
 ghost use Rattle.std.specs.Str.{all_ascii_digits};
 ghost use Rattle.std.specs.Str.Parse.{digits_value};
 ghost use Rattle.ntfe_words.specs.CommandLine.{number};

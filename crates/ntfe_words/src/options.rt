@@ -1,6 +1,7 @@
 //! What options stand for.
-ghost use Rattle.std.specs.Prelude.{◌≡◌, ◌≤◌, ℕ, Some, None, MatchOption, IfSome, codes};
-ghost use Rattle.ntfe_words.specs.CommandLine.{AreOptions, have_names, is_option, is_demo_option, number_of, workers_of, width_of, limit_of, push_of, push_named, stars_of};
+ghost use Rattle.std.specs.Prelude.{◌≡◌, ◌≤◌, MatchOption, IfSome};
+ghost use Rattle.ntfe_words.specs.CommandLine.{AreOptions, have_names, is_option, is_demo_option};
+ghost use Rattle.ntfe_words.specs.CommandLine.{number_of, workers_of, width_of, limit_of, push_of, push_named, stars_of};
 ghost use Rattle.ntfe_words.specs.Readers.{settings_now};
 
 use crate::command::Options;

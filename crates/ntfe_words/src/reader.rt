@@ -1,7 +1,5 @@
 //! Words read from left to right.
-ghost use Rattle.std.specs.Prelude.{◌≡◌, ℕ, List, ◌∷◌, [], None, Some, map, string_bytes, MatchResult, IfOk, option_map};
-ghost use Rattle.ntfe_words.specs.CommandLine.{reading};
-ghost use Rattle.ntfe_words.specs.Readers.{reading_now, reading_from, whole_reading};
+ghost use Rattle.std.specs.Prelude.{◌≡◌, map, string_bytes};
 ghost use Rattle.ntfe_words.specs.Reads.{IsRead, TakesWord};
 
 use crate::fault::WordFault;
@@ -11,20 +9,21 @@ use std::alloc::Global;
 
 /// What the next word is.
 #[derive(Clone, Copy, Drop)]
-pub enum Stand<'a> {
-    Open,
+pub enum NextWord<'a> {
+    /// What its kind says.
+    Any,
     /// The value of the option of this name.
-    Value(&'a [u8]),
+    ValueOf(&'a [u8]),
     /// A plain word, whatever it is.
-    Closed,
+    Plain,
 }
 
-/// Plain words and options so far, in order.
+/// The plain words and options so far, each in order, and what comes next.
 #[derive(Drop)]
 pub struct Reader<'a> {
     pub plains: Vec<&'a [u8]>,
     pub settings: Vec<Setting<'a>>,
-    pub stand: Stand<'a>,
+    pub next: NextWord<'a>,
 }
 
 impl<'a> Reader<'a> {
@@ -32,15 +31,15 @@ impl<'a> Reader<'a> {
     fn take(&mut self, word: &'a [u8]) -> Result<(), WordFault>
         ensures { TakesWord self.old self.new word.now result }
     {
-        match self.stand {
-            Stand::Open => self.take_open(word),
-            Stand::Value(name) => {
-                self.stand = Stand::Open;
+        match self.next {
+            NextWord::Any => self.take_open(word),
+            NextWord::ValueOf(name) => {
+                self.next = NextWord::Any;
                 let value = Some(word);
                 self.settings.push(Setting { name, value })?;
                 Ok(())
             }
-            Stand::Closed => {
+            NextWord::Plain => {
                 self.plains.push(word)?;
                 Ok(())
             }
@@ -49,14 +48,14 @@ impl<'a> Reader<'a> {
 
     /// Takes the next word, which is not the value of an option.
     fn take_open(&mut self, word: &'a [u8]) -> Result<(), WordFault>
-        requires { self.old.stand ≡ Stand.Open }
+        requires { self.old.next ≡ NextWord.Any }
         ensures { TakesWord self.old self.new word.now result }
     {
         match kind_of(word) {
-            Kind::Separator => self.stand = Stand::Closed,
+            Kind::Separator => self.next = NextWord::Plain,
             Kind::Plain => self.plains.push(word)?,
             Kind::Whole(setting) => self.settings.push(setting)?,
-            Kind::Awaiting(name) => self.stand = Stand::Value(name),
+            Kind::Awaiting(name) => self.next = NextWord::ValueOf(name),
             Kind::Meaningless => return Err(WordFault::Usage),
         }
         Ok(())
@@ -70,13 +69,13 @@ pub fn read(alloc: Global, words: &[String]) -> Result<Reader<'_>, WordFault>
     let mut reader = Reader {
         plains: Vec::new(alloc),
         settings: Vec::new(alloc),
-        stand: Stand::Open,
+        next: NextWord::Any,
     };
     for word in words {
         reader.take(word.as_bytes())?;
     }
-    match reader.stand {
-        Stand::Value(_) => Err(WordFault::Usage),
-        Stand::Open | Stand::Closed => Ok(reader),
+    match reader.next {
+        NextWord::ValueOf(_) => Err(WordFault::Usage),
+        NextWord::Any | NextWord::Plain => Ok(reader),
     }
 }
