@@ -1,0 +1,19 @@
+use Rattle.std.proofs.Common.{◌≡◌, ◌+◌, ◌*◌, min, sym, ap, ◌∙◌, false, refl}
+use Rattle.std.specs.Str.{all_ascii_digits}
+use Rattle.ntfe_words.proofs.Digits.{digits-more, digits-fail, size-more}
+use Rattle.ntfe_words.proofs.number.magnitude.Goals as goal
+
+pub returns-then-not-is_ascii_digit : goal.returns-then-not-is_ascii_digit
+returns-then-not-is_ascii_digit c =
+    let fails : all_ascii_digits c.args.digits.now ≡ false = digits-fail c.args.digits.now c.loop-digit.digit-index c.loop-digit-test.true (sym c.is_ascii_digit.ensures.value ∙ c.if-not-is_ascii_digit.true) in
+    rw fails refl
+
+pub loop-digit-preserved : goal.loop-digit-preserved
+loop-digit-preserved c =
+    let bs = c.args.digits.now in
+    let i = c.loop-digit.digit-index in
+    let digit = sym c.is_ascii_digit.ensures.value ∙ c.if-not-is_ascii_digit.false in
+    record {
+      digits = digits-more bs i c.loop-digit-test.true c.loop-digit.invariant.digits digit;
+      size = c.min-size.ensures ∙ ap (λ d. min (c.loop-digit.size * 10 + d) 4294967296) c.from.ensures ∙ size-more bs i c.loop-digit.size c.loop-digit-test.true digit c.loop-digit.invariant.size;
+    }
