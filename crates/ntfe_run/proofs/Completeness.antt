@@ -1,23 +1,79 @@
 -- Where the input can be answered and no count of faults rose, all was done or memory ran out.
-use Rattle.std.proofs.Common.{◌≡◌, ◌∙◌, inl, inr, refl, sym, subst, ℕ, List}
+use Rattle.std.proofs.Common.{◌≡◌, ◌∙◌, ⊎_elim, inl, inr, refl, sym, ap, subst, ℕ, List, Some}
 use Rattle.std.specs.Prelude.{Option}
 use Rattle.io_edge.specs.Reading.{ReadsAll, ReadsPast}
 use Rattle.ntfe_model.specs.Shapes.{Shape}
 use Rattle.ntfe_run.specs.Inputs.{IsInputOf, IsRefusalOf}
-use Rattle.ntfe_run.specs.Answers.{IsCommand, IsReady, IsReadInput, IsReadRefusal, HasAnswer, HasAnswerCause, IsComplete, input_limit}
+use Rattle.ntfe_words.specs.CommandLine.{Setting, Reading, number, AreOptions, IsDemo, IsMeaningOf, IsMeaning}
+use Rattle.ntfe_words.specs.declared.command.Command.{Command}
+use Rattle.ntfe_words.specs.declared.command.Command.TheVariants as command
+use Rattle.ntfe_words.specs.declared.command.Options.{Options}
+use Rattle.ntfe_run.specs.Tasks.{IsBuilt, IsTaskOf}
+use Rattle.ntfe_run.specs.Answers.{IsReady, IsReadInput, IsReadRefusal, IsUnbuilt, HasDone, HasAnswer, HasAnswerCause, IsComplete, input_limit}
 use Rattle.ntfe_run.proofs.InputsFixed.{read_fixed, not_past, input_fixed, not_refused}
-use Rattle.ntfe_run.specs.declared.command.Command.{Command}
-use Rattle.ntfe_run.specs.declared.command.Command.TheVariants.{Classes, Faces}
+use Rattle.ntfe_run.specs.declared.task.Task.{Task}
+use Rattle.ntfe_run.specs.declared.task.Task.TheVariants.{Classes, Faces}
 use Rattle.ntfe_run.specs.declared.status.Refusal.{Refusal}
 use Rattle.ntfe_run.specs.declared.status.Refusal.TheVariants.{Size, Text, Pair, Points, Unready}
 use Rattle.ntfe_run.specs.declared.status.Status.{Status}
 use Rattle.ntfe_run.specs.declared.status.Status.TheVariants.{Done, Usage, Refused, Memory, ReadFault, WriteFault}
 
-command_fixed : (words : List (List ℕ)) (c d : Command) → IsCommand words c → IsCommand words d → c ≡ d
-command_fixed words Classes Classes p q = refl
-command_fixed words Classes Faces p q = let e = sym p ∙ q in cc
-command_fixed words Faces Classes p q = let e = sym p ∙ q in cc
-command_fixed words Faces Faces p q = refl
+-- ---- words mean one command, and one task is done for it
+
+options_fixed : (settings : List Setting) (o p : Options) → AreOptions settings o → AreOptions settings p → o ≡ p
+options_fixed settings o p h k =
+    let a : o.workers ≡ p.workers = cc (h.workers, k.workers) in
+    let b : o.limit ≡ p.limit = cc (h.limit, k.limit) in
+    let c : o.width ≡ p.width = cc (h.width, k.width) in
+    let d : o.push ≡ p.push = cc (h.push, k.push) in
+    let e : o.stars ≡ p.stars = cc (h.stars, k.stars) in
+    λ i. record { workers = a i; limit = b i; width = c i; push = d i; stars = e i }
+
+demo_fixed : (r : Reading) (n workers width m others wide : ℕ) → IsDemo r n workers width → IsDemo r m others wide → (n ≡ m) × (workers ≡ others) × (width ≡ wide)
+demo_fixed r n workers width m others wide h k =
+    let a : h.word ≡ k.word = cc (h.plains, k.plains) in
+    let b : Some n ≡ Some m = sym h.n_is ∙ ap (number 1 5) a ∙ k.n_is in
+    (cc b, cc (h.workers_is, k.workers_is), cc (h.width_is, k.width_is))
+
+reading_fixed : (r : Reading) (c d : Command) → IsMeaningOf r c → IsMeaningOf r d → c ≡ d
+reading_fixed r (command.Classes o) (command.Classes p) h k = ap command.Classes (options_fixed r.settings o p h.1 k.1)
+reading_fixed r (command.Classes o) (command.Resume p) h k = let e = sym h.0 ∙ k.0 in cc
+reading_fixed r (command.Classes o) command.Faces h k = let e = sym h.0 ∙ k.0 in cc
+reading_fixed r (command.Classes o) (command.Demo m others wide) h k = let e = sym h.0 ∙ k.plains in cc
+reading_fixed r (command.Resume o) (command.Classes p) h k = let e = sym h.0 ∙ k.0 in cc
+reading_fixed r (command.Resume o) (command.Resume p) h k = ap command.Resume (options_fixed r.settings o p h.1 k.1)
+reading_fixed r (command.Resume o) command.Faces h k = let e = sym h.0 ∙ k.0 in cc
+reading_fixed r (command.Resume o) (command.Demo m others wide) h k = let e = sym h.0 ∙ k.plains in cc
+reading_fixed r command.Faces (command.Classes p) h k = let e = sym h.0 ∙ k.0 in cc
+reading_fixed r command.Faces (command.Resume p) h k = let e = sym h.0 ∙ k.0 in cc
+reading_fixed r command.Faces command.Faces h k = refl
+reading_fixed r command.Faces (command.Demo m others wide) h k = let e = sym h.0 ∙ k.plains in cc
+reading_fixed r (command.Demo n workers width) (command.Classes p) h k = let e = sym h.plains ∙ k.0 in cc
+reading_fixed r (command.Demo n workers width) (command.Resume p) h k = let e = sym h.plains ∙ k.0 in cc
+reading_fixed r (command.Demo n workers width) command.Faces h k = let e = sym h.plains ∙ k.0 in cc
+reading_fixed r (command.Demo n workers width) (command.Demo m others wide) h k = (let e = demo_fixed r n workers width m others wide h k in λ i. command.Demo (e.0 i) (e.1 i) (e.2 i))
+
+meaning_fixed : (words : List (List ℕ)) (c d : Command) → IsMeaning words c → IsMeaning words d → c ≡ d
+meaning_fixed words c d h k =
+    let e : h.read ≡ k.read = cc (h.reads, k.reads) in
+    reading_fixed k.read c d (subst (λ (r : Reading). IsMeaningOf r c) e h.means) k.means
+
+task_fixed : (c : Command) (t u : Task) → IsTaskOf c t → IsTaskOf c u → t ≡ u
+task_fixed (command.Classes o) (Classes push) (Classes other) h k = ap Classes (h.2 ∙ sym k.2)
+task_fixed (command.Classes o) (Classes push) Faces h k = absurd k
+task_fixed (command.Classes o) Faces u h k = absurd h
+task_fixed (command.Resume o) t u h k = absurd h
+task_fixed command.Faces (Classes push) u h k = absurd h
+task_fixed command.Faces Faces (Classes push) h k = absurd k
+task_fixed command.Faces Faces Faces h k = refl
+task_fixed (command.Demo n workers width) t u h k = absurd h
+
+is_built : (c : Command) (t : Task) → IsTaskOf c t → IsBuilt c
+is_built (command.Classes o) (Classes push) h = (h.0, h.1)
+is_built (command.Classes o) Faces h = absurd h
+is_built (command.Resume o) t h = absurd h
+is_built command.Faces t h = tt
+is_built (command.Demo n workers width) t h = absurd h
 
 module _ (words : List (List ℕ)) (left left' : Option (List ℕ)) (a : HasAnswer words left) where
   own_bytes : (bytes : List ℕ) → ReadsAll left left' bytes input_limit → bytes ≡ a.bytes
@@ -36,19 +92,27 @@ module _ (words : List (List ℕ)) (left left' : Option (List ℕ)) (a : HasAnsw
   own_input : (g : Shape) → IsReadInput left left' g → a.input ≡ g
   own_input g r = input_fixed a.bytes a.input g a.is (subst (λ (bs : List ℕ). IsInputOf bs g) (own_bytes r.bytes r.reads) r.holds)
 
-  is_ready : (command : Command) (g : Shape) → IsCommand words command → IsReadInput left left' g → IsReady command g
-  is_ready command g c r =
-      subst (λ (h : Shape). IsReady command h) (own_input g r) (subst (λ (d : Command). IsReady d a.input) (command_fixed words a.command command a.means c) a.ready)
+  is_ready : (c : Command) (task : Task) (g : Shape) → IsMeaning words c → IsTaskOf c task → IsReadInput left left' g → IsReady task g
+  is_ready c task g m t r =
+      let same : IsTaskOf a.asked task = subst (λ (d : Command). IsTaskOf d task) (meaning_fixed words c a.asked m a.means) t in
+      subst (λ (h : Shape). IsReady task h) (own_input g r) (subst (λ (u : Task). IsReady u a.input) (task_fixed a.asked a.task task a.of same) a.ready)
+
+  not_unbuilt : IsUnbuilt words → ⊥
+  not_unbuilt (c, m, n) = n (subst IsBuilt (meaning_fixed words a.asked c a.means m) (is_built a.asked a.task a.of))
+
+  none_unready : (source source' sink sink' stage : ℕ) → HasDone words left left' source source' sink sink' (Refused (Unready stage)) → ⊥
+  none_unready source source' sink sink' stage (c, task, m, t, (same, (g, read, unready))) = unready (is_ready c task g m t read)
 
 pub complete : (words : List (List ℕ)) (left left' : Option (List ℕ)) (source source' sink sink' : ℕ) (status : Status)
     → HasAnswerCause words left left' source source' sink sink' status → IsComplete words left source source' sink sink' status
 complete words left left' source source' sink sink' Done c a n m = inl refl
 complete words left left' source source' sink sink' Memory c a n m = inr refl
-complete words left left' source source' sink sink' Usage c a n m = absurd (c (a.command, a.means))
-complete words left left' source source' sink sink' ReadFault c a n m = absurd (n c.2)
-complete words left left' source source' sink sink' WriteFault c a n m = absurd (m c.2)
-complete words left left' source source' sink sink' (Refused (Size limit)) c a n m = absurd (no_refusal words left left' a (Size limit) c.2)
-complete words left left' source source' sink sink' (Refused (Text fault)) c a n m = absurd (no_refusal words left left' a (Text fault) c.2)
-complete words left left' source source' sink sink' (Refused (Pair fault)) c a n m = absurd (no_refusal words left left' a (Pair fault) c.2)
-complete words left left' source source' sink sink' (Refused (Points fault)) c a n m = absurd (no_refusal words left left' a (Points fault) c.2)
-complete words left left' source source' sink sink' (Refused (Unready stage)) (command, means, (same, (g, read, unready))) a n m = absurd (unready (is_ready words left left' a command g means read))
+complete words left left' source source' sink sink' Usage c a n m = absurd (c (a.asked, a.means))
+complete words left left' source source' sink sink' ReadFault c a n m = absurd (n c.4)
+complete words left left' source source' sink sink' WriteFault c a n m = absurd (m c.4)
+complete words left left' source source' sink sink' (Refused (Size limit)) c a n m = absurd (no_refusal words left left' a (Size limit) c.4)
+complete words left left' source source' sink sink' (Refused (Text fault)) c a n m = absurd (no_refusal words left left' a (Text fault) c.4)
+complete words left left' source source' sink sink' (Refused (Pair fault)) c a n m = absurd (no_refusal words left left' a (Pair fault) c.4)
+complete words left left' source source' sink sink' (Refused (Points fault)) c a n m = absurd (no_refusal words left left' a (Points fault) c.4)
+complete words left left' source source' sink sink' (Refused (Unready stage)) c a n m =
+    absurd (⊎_elim (λ u. not_unbuilt words left left' a u.1) (none_unready words left left' a source source' sink sink' stage) c)

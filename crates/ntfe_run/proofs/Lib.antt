@@ -1,4 +1,5 @@
 pub mod Answered
+pub mod Asked
 pub mod Completeness
 pub mod Counts
 pub mod Crossing

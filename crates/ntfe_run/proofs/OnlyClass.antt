@@ -12,6 +12,7 @@ use Rattle.ntfe_model.specs.RunText.{Block, head_text, block_text, end_line, IsS
 use Rattle.ntfe_model.specs.declared.triangulation.Triangulation.{Triangulation}
 use Rattle.ntfe_model.specs.declared.nogood.Fold.{Fold}
 use Rattle.ntfe_model.proofs.Listings.{Contains-here, Contains-cases, Contains-none}
+use Rattle.ntfe_model.specs.declared.nogood.Push.{Push}
 use Rattle.ntfe_run.specs.PlainText.{AreTriangles, plain_form, plain_block, plain_text}
 use Rattle.ntfe_run.proofs.OneTriangle.{corners}
 use Rattle.ntfe_run.proofs.OneItem.{only_item, item_0, item_is, no_folds}
@@ -47,7 +48,7 @@ module _ (h : Patch) (t : IsTriangleFrom h) where
 
 -- ---- the choice, its folds and its heights
 
-module _ (g : Shape) (s : IsShape g) (t : AreTriangles g) where
+module _ (push : Push) (g : Shape) (s : IsShape g) (t : AreTriangles g) where
   triangle_at : (f : ℕ) → f < length g.faces → IsTriangleFrom (patch_at g f)
   triangle_at f l = triangle_face g s f l (t f no_face l)
 
@@ -106,7 +107,7 @@ module _ (g : Shape) (s : IsShape g) (t : AreTriangles g) where
   abbrev only_block : Block
   only_block = plain_block (length g.faces) (length g.points)
 
-  is_block : IsBlockOf g plain_form None only_block
+  is_block : IsBlockOf g (plain_form push) None only_block
   is_block = record {
     extendable = record { items = is_choice; heights = only_block.heights; extends = extends only_block.heights zeros (length-replicate (length g.points) (pos 0)) };
     after = tt;
@@ -114,21 +115,21 @@ module _ (g : Shape) (s : IsShape g) (t : AreTriangles g) where
     star = refl;
   }
 
-  no_star : (b : Block) (star : Option (List (List ℕ))) → IsStarOf g plain_form b star → star ≡ None
+  no_star : (b : Block) (star : Option (List (List ℕ))) → IsStarOf g (plain_form push) b star → star ≡ None
   no_star b None k = refl
   no_star b (Some star) k = let e : false ≡ true = k.0 in cc
 
-  block_is : (b : Block) → IsBlockOf g plain_form None b → b ≡ only_block
+  block_is : (b : Block) → IsBlockOf g (plain_form push) None b → b ≡ only_block
   block_is b k =
       let c = choice_is b.choice k.extendable.items in
       let w = heights_are b.heights (subst (λ (v : List ℕ). AreHeightsOf g v b.heights) c k.heights) in
       let n = no_star b b.star k.star in
       λ i. record { choice = c i; heights = w i; star = n i }
 
-  are_blocks : AreBlocks g plain_form None (only_block ∷ [])
+  are_blocks : AreBlocks g (plain_form push) None (only_block ∷ [])
   are_blocks = record {
     ordered = λ i j d a b. absurd (omega arith);
-    sound = alone (IsBlockOf g plain_form None) only_block is_block;
+    sound = alone (IsBlockOf g (plain_form push) None) only_block is_block;
     complete = λ b k. Contains-here b only_block [] (block_is b k);
   }
     where
@@ -137,11 +138,11 @@ module _ (g : Shape) (s : IsShape g) (t : AreTriangles g) where
       alone P b p (suc i) d l = absurd (omega arith)
 
   -- the headline, where each two-face has three points
-  pub is_run_text : IsRunText g plain_form nothing_kept None (plain_text g)
+  pub is_run_text : IsRunText g (plain_form push) nothing_kept None (plain_text push g)
   is_run_text = record {
     blocks = only_block ∷ [];
     are = are_blocks;
-    is = joined (head_text g.pair plain_form) (block_text only_block) (end_line 1);
+    is = joined (head_text g.pair (plain_form push)) (block_text only_block) (end_line 1);
   }
     where
       joined : (head block end : List ℕ) → head ++ (block ++ end) ≡ head ++ (block ++ []) ++ end

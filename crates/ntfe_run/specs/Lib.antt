@@ -4,3 +4,4 @@ pub mod Inputs
 pub mod Messages
 pub mod Parts
 pub mod PlainText
+pub mod Tasks

@@ -35,13 +35,13 @@ fn zero_heights(alloc: Global, points: usize) -> Result<Heights, AllocError>
 }
 
 /// What the text depends on beside the classes.
-fn text_form(alloc: Global, geometry: &Geometry) -> Result<TextForm, AllocError>
-    ensures { IfOk result (λ f. IsPlainForm geometry.now f) }
+fn text_form(alloc: Global, push: Push, geometry: &Geometry) -> Result<TextForm, AllocError>
+    ensures { IfOk result (λ f. IsPlainForm push geometry.now f) }
 {
     let pair = geometry.pair().try_clone(alloc)?;
     Ok(TextForm {
         pair,
-        push: Push::Up,
+        push,
         stars: false,
         points: geometry.points().len() as u32,
         faces: geometry.faces().len() as u32,
@@ -77,12 +77,13 @@ fn write_text<K: Sink>(alloc: Global, form: &TextForm, out: &mut K) -> Result<()
 /// Writes the text of the classes, where each two-face has three points: one class, with items 0 and heights 0.
 pub fn write_classes<K: Sink>(
     alloc: Global,
+    push: Push,
     geometry: &Geometry,
     out: &mut K,
 ) -> Result<(), LineFault>
-    ensures { WritesText (K.taken out.old) (K.taken out.new) (K.faults out.old) (K.faults out.new) result (plain_text geometry.now) }
+    ensures { WritesText (K.taken out.old) (K.taken out.new) (K.faults out.old) (K.faults out.new) result (plain_text push geometry.now) }
 {
-    let Ok(form) = text_form(alloc, geometry) else {
+    let Ok(form) = text_form(alloc, push, geometry) else {
         return Err(LineFault::Memory);
     };
     write_text(alloc, &form, out)

@@ -2,13 +2,13 @@
 #![tactic(auto)]
 
 mod classes;
-mod command;
 mod faces;
 mod inputs;
 mod messages;
 mod numbered;
 mod part;
 mod status;
+mod task;
 mod top;
 
 pub use status::{Refusal, Status};

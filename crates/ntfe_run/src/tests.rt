@@ -268,8 +268,38 @@ fn is_usage<R: Threads + Wait + Sync + AllocGlobal>(
 fn words_without_a_meaning(rt: HostRuntime) -> Result<(), AllocError> {
     assert!(rt; is_usage(&rt, &[])?);
     assert!(rt; is_usage(&rt, &["demo", "6"])?);
+    assert!(rt; is_usage(&rt, &["classes", "--limit"])?);
     assert!(rt; is_usage(&rt, &["faces", "--workers", "2"])?);
+    assert!(rt; is_usage(&rt, &["classes", "--workers", "17"])?);
+    assert!(rt; is_usage(&rt, &["classes", "--limit=1", "--limit=2"])?);
     assert!(rt; !is_usage(&rt, &["faces"])?);
+    Ok(())
+}
+
+#[test]
+fn words_for_what_is_not_built(rt: HostRuntime) -> Result<(), AllocError> {
+    for (first, second) in [
+        ("classes", "--stars"),
+        ("classes", "--limit=1"),
+        ("resume", "--push=up"),
+        ("demo", "5"),
+    ] {
+        let refused = run_on(&rt, &[first, second], "", 9999)?;
+        assert_eq!(rt; refused.code, 3);
+        assert!(rt; refused.err.bytes() == b"ntfe: not built: stage 6\n".as_slice());
+        assert!(rt; refused.out.bytes().is_empty());
+    }
+    Ok(())
+}
+
+#[test]
+fn the_push_in_the_head(rt: HostRuntime) -> Result<(), AllocError> {
+    let words = ["--width=1", "classes", "--push", "down", "--workers", "016"];
+    let all = run_on(&rt, words.as_slice(), SIMPLEX, 9999)?;
+    let class = SIMPLEX_CLASS.replacen(rt.alloc(), "push up", "push down", 1)?;
+    let want = format!(in rt.alloc(); "ntfe 1\n{SIMPLEX}{class}")?;
+    assert_eq!(rt; all.code, 0);
+    assert!(rt; all.out.bytes() == want.as_bytes());
     Ok(())
 }
 

@@ -1,16 +1,17 @@
 //! The top call.
 ghost use Rattle.std.specs.Prelude.{◌≤◌, map, string_bytes, IfOk, IfErr};
-ghost use Rattle.ntfe_run.specs.Answers.{IsReadInput, IsReadStop, HasCommandCause, HasWritten, IsStatusOf, IsAnswer, HasAnswerCause, HasRunText, IsComplete};
+ghost use Rattle.ntfe_run.specs.Answers.{IsReadInput, IsReadStop, HasTaskCause, HasWritten, IsTaskText, IsStatusOf, IsAnswer, HasAnswerCause, HasRunText, IsComplete};
 ghost use Rattle.ntfe_run.specs.Messages.{message_line, TellsMessage};
 
 use crate::classes::{are_triangles, write_classes};
-use crate::command::{Command, command_of};
 use crate::faces::write_faces;
 use crate::inputs::{Stop, geometry_of};
 use crate::messages::write_message;
 use crate::status::{Refusal, Status};
+use crate::task::{Task, task_of};
 use io_edge::{Gate, LineFault, ReadStop, Sink, Source, read_all};
-use ntfe_model::Geometry;
+use ntfe_model::{Geometry, Push};
+use ntfe_words::{WordFault, read_words};
 use std::alloc::Global;
 use std::sync::Wait;
 use std::thread::Threads;
@@ -52,39 +53,44 @@ fn status_of(written: Result<(), LineFault>) -> Status
 
 /// Writes the points and two-faces.
 fn list_faces<K: Sink>(alloc: Global, geometry: &Geometry, out: &mut K) -> Status
-    ensures { IsAnswer Command.Faces geometry.now (K.taken out.old) (K.taken out.new) (K.faults out.old) (K.faults out.new) result }
+    ensures { IsAnswer Task.Faces geometry.now (K.taken out.old) (K.taken out.new) (K.faults out.old) (K.faults out.new) result }
 {
     status_of(write_faces(alloc, geometry, out))
 }
 
 /// Writes the classes.
-fn list_classes<K: Sink>(alloc: Global, geometry: &Geometry, out: &mut K) -> Status
-    ensures { IsAnswer Command.Classes geometry.now (K.taken out.old) (K.taken out.new) (K.faults out.old) (K.faults out.new) result }
+fn list_classes<K: Sink>(
+    alloc: Global,
+    push: Push,
+    geometry: &Geometry,
+    out: &mut K,
+) -> Status
+    ensures { IsAnswer (Task.Classes push) geometry.now (K.taken out.old) (K.taken out.new) (K.faults out.old) (K.faults out.new) result }
 {
     if are_triangles(geometry) {
-        status_of(write_classes(alloc, geometry, out))
+        status_of(write_classes(alloc, push, geometry, out))
     } else {
         Status::Refused(Refusal::Unready { stage: 5 })
     }
 }
 
-/// Does the command on the source and writes its answer.
-fn do_command<S: Source, K: Sink>(
+/// Does the task on the source and writes its answer.
+fn do_task<S: Source, K: Sink>(
     alloc: Global,
-    command: Command,
+    task: Task,
     source: &mut S,
     out: &mut K,
 ) -> Status
-    ensures cause { HasCommandCause command (S.left source.old) (S.left source.new) (S.faults source.old) (S.faults source.new) (K.faults out.old) (K.faults out.new) result }
-    ensures written { HasWritten command (S.left source.old) (S.left source.new) (K.taken out.old) (K.taken out.new) result }
+    ensures cause { HasTaskCause task (S.left source.old) (S.left source.new) (S.faults source.old) (S.faults source.new) (K.faults out.old) (K.faults out.new) result }
+    ensures written { HasWritten (IsTaskText task) (S.left source.old) (S.left source.new) (K.taken out.old) (K.taken out.new) result }
 {
     let geometry = match read_geometry(alloc, source) {
         Ok(geometry) => geometry,
         Err(status) => return status,
     };
-    match command {
-        Command::Faces => list_faces(alloc, &geometry, out),
-        Command::Classes => list_classes(alloc, &geometry, out),
+    match task {
+        Task::Faces => list_faces(alloc, &geometry, out),
+        Task::Classes { push } => list_classes(alloc, push, &geometry, out),
     }
 }
 
@@ -98,9 +104,14 @@ fn answer<S: Source, K: Sink>(
     ensures cause { HasAnswerCause (map string_bytes words.now) (S.left source.old) (S.left source.new) (S.faults source.old) (S.faults source.new) (K.faults out.old) (K.faults out.new) result }
     ensures text { HasRunText (map string_bytes words.now) (S.left source.old) (S.left source.new) (K.taken out.old) (K.taken out.new) result }
 {
-    match command_of(words) {
-        Some(command) => do_command(alloc, command, source, out),
-        None => Status::Usage,
+    let command = match read_words(alloc, words) {
+        Ok(command) => command,
+        Err(WordFault::Usage) => return Status::Usage,
+        Err(WordFault::Memory) => return Status::Memory,
+    };
+    match task_of(command) {
+        Some(task) => do_task(alloc, task, source, out),
+        None => Status::Refused(Refusal::Unready { stage: 6 }),
     }
 }
 

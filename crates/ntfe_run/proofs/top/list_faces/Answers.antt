@@ -1,5 +1,5 @@
 use Rattle.ntfe_run.proofs.Answered.{answered}
-use Rattle.ntfe_run.specs.declared.command.Command.TheVariants.{Faces}
+use Rattle.ntfe_run.specs.declared.task.Task.TheVariants.{Faces}
 use Rattle.ntfe_run.proofs.top.list_faces.Goals as goal
 
 pub returns : goal.returns

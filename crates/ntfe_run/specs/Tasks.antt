@@ -1,0 +1,19 @@
+-- What is built of the commands, and what is done for each.
+use Rattle.std.specs.Prelude.{◌≡◌, false, None, ⊤}
+use Rattle.ntfe_words.specs.declared.command.Command.{Command}
+use Rattle.ntfe_words.specs.declared.command.Command.TheVariants as command
+use Rattle.ntfe_run.specs.declared.task.Task.{Task}
+use Rattle.ntfe_run.specs.declared.task.Task.TheVariants.{Classes, Faces}
+
+-- listings of classes without a limit and without stars, and the points and two-faces
+abbrev pub IsBuilt : Command → Type 0
+IsBuilt (command.Classes o) = (o.limit ≡ None) × (o.stars ≡ false)
+IsBuilt (command.Resume o) = ⊥
+IsBuilt command.Faces = ⊤
+IsBuilt (command.Demo n workers width) = ⊥
+
+-- the task is what is done for the command
+abbrev pub IsTaskOf : Command → Task → Type 0
+IsTaskOf (command.Classes o) (Classes push) = (o.limit ≡ None) × (o.stars ≡ false) × (push ≡ o.push)
+IsTaskOf command.Faces Faces = ⊤
+IsTaskOf c task = ⊥

@@ -1,0 +1,28 @@
+//! What is done for a command.
+ghost use Rattle.std.specs.Prelude.{MatchOption};
+ghost use Rattle.ntfe_run.specs.Tasks.{IsBuilt, IsTaskOf};
+
+use ntfe_model::Push;
+use ntfe_words::Command;
+
+/// What is to be done.
+#[derive(Clone, Copy, Drop)]
+pub enum Task {
+    /// List the classes.
+    Classes { push: Push },
+    /// List the points and two-faces.
+    Faces,
+}
+
+/// What is done for the command, or nothing where that is not built.
+pub fn task_of(command: Command) -> Option<Task>
+    ensures { MatchOption result (¬ (IsBuilt command)) (IsTaskOf command) }
+{
+    match command {
+        Command::Classes(options) if options.limit.is_none() && !options.stars => {
+            Some(Task::Classes { push: options.push })
+        }
+        Command::Faces => Some(Task::Faces),
+        _ => None,
+    }
+}
