@@ -1,0 +1,177 @@
+//! The grid of numbers that stands for the rows of the basic variables.
+ghost use Rattle.std.specs.Prelude.{◌≡◌, ◌≢◌, ℕ, ◌+◌, ◌*◌, ◌≤◌, length, MatchOption, MatchBool};
+ghost use Rattle.strict_solver.specs.Grids.{row_at, IsEliminated, IsPivotRow, AreRowsFor, AreEliminated, IsFirstWideRow};
+ghost use Rattle.strict_solver.specs.Rows.{AreNarrow, IsWideRow, IsLowRow};
+
+use crate::place::Place;
+use crate::row::{PivotRow, eliminate, first_wide_number, solve_for};
+
+/// The rows of the basic variables, with a column for each of the others.
+#[derive(Drop)]
+pub struct Grid {
+    /// The number of heights.
+    pub columns: usize,
+    /// The rows, one after the other.
+    pub cells: Vec<i64>,
+    /// Where each variable stands: first the heights, then the slacks.
+    pub places: Vec<Place>,
+    pub pivot: PivotRow,
+    pub scratch: Vec<i128>,
+}
+
+/// A step with a wide number, and the first such number of it.
+#[derive(Clone, Copy, Drop)]
+pub struct WideStep {
+    pub step: u64,
+    pub number: i128,
+}
+
+/// Puts the pivot row into one row, unless that row is wide with it: then the answer is false, and the row stands in `scratch`.
+fn eliminate_at(cells: &mut [i64], r: usize, pivot: &PivotRow, scratch: &mut [i128], width: u8) -> bool
+    requires low { 1 ≤ width }
+    requires high { width ≤ 62 }
+    requires pivot { IsPivotRow (length scratch.old) pivot.now }
+    requires room { r * length scratch.old + length scratch.old ≤ length cells.old }
+    requires row { IsLowRow width (row_at (length scratch.old) cells.old r) }
+    ensures kept { length cells.new ≡ length cells.old }
+    ensures scratch { length scratch.new ≡ length scratch.old }
+    ensures others { (q : ℕ) → q ≢ r → row_at (length scratch.old) cells.new q ≡ row_at (length scratch.old) cells.old q }
+    ensures answer { MatchBool result
+        (IsEliminated pivot.now (row_at (length scratch.old) cells.old r) (row_at (length scratch.old) cells.new r) × AreNarrow width (row_at (length scratch.old) cells.new r))
+        (IsEliminated pivot.now (row_at (length scratch.old) cells.old r) scratch.new × IsWideRow width scratch.new) }
+{
+    let stride = scratch.len();
+    let row = &mut cells[r * stride..r * stride + stride];
+    if row[pivot.column] == 0 {
+        return true;
+    }
+    eliminate(row, pivot, scratch, width)
+}
+
+/// Puts the pivot row into the other rows, in the order of the variables. The answer is the first wide number.
+fn eliminate_rows(
+    cells: &mut [i64],
+    places: &[Place],
+    pivot: &PivotRow,
+    scratch: &mut [i128],
+    width: u8,
+) -> Option<i128>
+    requires low { 1 ≤ width }
+    requires high { width ≤ 62 }
+    requires pivot { IsPivotRow (length scratch.old) pivot.now }
+    requires rows { AreRowsFor width (length scratch.old) places.now pivot.now.row cells.old }
+    ensures kept { length cells.new ≡ length cells.old }
+    ensures scratch { length scratch.new ≡ length scratch.old }
+    ensures answer { MatchOption result
+        ((row_at (length scratch.old) cells.new pivot.now.row ≡ row_at (length scratch.old) cells.old pivot.now.row) × AreEliminated width (length scratch.old) places.now pivot.now cells.old cells.new)
+        (λ z. IsFirstWideRow width (length scratch.old) places.now pivot.now cells.old z) }
+{
+    for place in places {
+        if let Place::Row(r) = *place {
+            if r != pivot.row && !eliminate_at(cells, r, pivot, scratch, width) {
+                return first_wide_number(scratch, places, width);
+            }
+        }
+    }
+    None
+}
+
+impl Grid {
+    /// The pivot on a basic variable and another one. The answer is the first wide number of the table after it.
+    pub fn pivot(&mut self, leaving: usize, entering: usize, width: u8) -> Option<i128> {
+        let Place::Row(r) = self.places[leaving] else {
+            unreachable!();
+        };
+        let Place::Column(p) = self.places[entering] else {
+            unreachable!();
+        };
+        let stride = self.columns + 2;
+        let row = &mut self.cells[r * stride..r * stride + stride];
+        solve_for(row, p);
+        self.pivot.row = r;
+        self.pivot.column = p;
+        self.pivot.denominator = row[0];
+        self.pivot.numbers.copy_from_slice(row);
+        self.pivot.numbers[0] = 0;
+        self.places[leaving] = Place::Column(p);
+        self.places[entering] = Place::Row(r);
+        eliminate_rows(
+            &mut self.cells,
+            &self.places,
+            &self.pivot,
+            &mut self.scratch,
+            width,
+        )
+    }
+
+    /// The first basic slack that has a height.
+    fn first_with(&self, height: usize) -> Option<usize> {
+        let Place::Column(p) = self.places[height] else {
+            return None;
+        };
+        for x in self.columns..self.places.len() {
+            if let Place::Row(r) = self.places[x] {
+                if self.cells[r * (self.columns + 2) + p] != 0 {
+                    return Some(x);
+                }
+            }
+        }
+        None
+    }
+
+    /// The first basic slack that is negative.
+    fn first_negative(&self) -> Option<usize> {
+        for x in self.columns..self.places.len() {
+            if let Place::Row(r) = self.places[x] {
+                if self.cells[r * (self.columns + 2) + 1] < 0 {
+                    return Some(x);
+                }
+            }
+        }
+        None
+    }
+
+    /// The first slack that is not basic and has a positive coefficient in the row of a basic variable.
+    fn first_entering(&self, leaving: usize) -> Option<usize> {
+        let Place::Row(r) = self.places[leaving] else {
+            return None;
+        };
+        for y in self.columns..self.places.len() {
+            if let Place::Column(p) = self.places[y] {
+                if self.cells[r * (self.columns + 2) + p] > 0 {
+                    return Some(y);
+                }
+            }
+        }
+        None
+    }
+
+    /// The loading: each height in turn takes the place of the first slack that has it. The answer is the number of pivots.
+    pub fn load(&mut self, width: u8) -> Result<u64, WideStep> {
+        let mut step = 0u64;
+        for height in 0..self.columns {
+            if let Some(slack) = self.first_with(height) {
+                step = step.saturating_add(1);
+                if let Some(number) = self.pivot(slack, height, width) {
+                    return Err(WideStep { step, number });
+                }
+            }
+        }
+        Ok(step)
+    }
+
+    /// The moving, after so many pivots: the number of pivots at its end, and the slack that can't be mended.
+    pub fn settle(&mut self, pivots: u64, width: u8) -> Result<(u64, Option<usize>), WideStep> {
+        let mut step = pivots;
+        while let Some(leaving) = self.first_negative() {
+            let Some(entering) = self.first_entering(leaving) else {
+                return Ok((step, Some(leaving)));
+            };
+            step = step.saturating_add(1);
+            if let Some(number) = self.pivot(leaving, entering, width) {
+                return Err(WideStep { step, number });
+            }
+        }
+        Ok((step, None))
+    }
+}
