@@ -17,3 +17,8 @@ pub mod Wide
 pub mod Combine
 pub mod Parts
 pub mod Elimination
+pub mod Reduced
+pub mod Steps
+pub mod Placing
+pub mod Pivoting
+pub mod Tables

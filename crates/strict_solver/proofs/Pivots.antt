@@ -103,7 +103,7 @@ length_pairs : (g : ℤ × ℤ → ℤ) (es : List (ℤ × ℤ)) → length (map
 length_pairs g [] = refl
 length_pairs g (e ∷ es) = ap suc (length_pairs g es)
 
-length-zipped : (g : ℤ × ℤ → ℤ) (n : ℕ) (xs ys : List ℤ) → length xs ≡ n → length ys ≡ n → length (map g (zip xs ys)) ≡ n
+pub length-zipped : (g : ℤ × ℤ → ℤ) (n : ℕ) (xs ys : List ℤ) → length xs ≡ n → length ys ≡ n → length (map g (zip xs ys)) ≡ n
 length-zipped g n xs ys e f = length_pairs g (zip xs ys) ∙ length-zip xs ys ∙ least (length xs) (length ys) e f
   where
     least : (j k : ℕ) → j ≡ n → k ≡ n → min j k ≡ n

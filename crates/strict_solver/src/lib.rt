@@ -1,6 +1,8 @@
 //! The exact solver: heights at which every fold is at least 1, or multipliers at which the folds cancel.
 #![tactic(auto)]
 
+ghost use Rattle.std.specs.Prelude.{◌≡◌, true};
+
 mod grid;
 mod place;
 mod row;
@@ -9,3 +11,10 @@ mod start;
 mod tableau;
 
 pub use tableau::{Solved, Tableau};
+
+#[allow(dead_code)]
+fn probe(x: u8) -> bool
+    ensures { result ≡ true }
+{
+    x <= 255
+}
