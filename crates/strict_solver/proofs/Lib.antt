@@ -22,3 +22,4 @@ pub mod Steps
 pub mod Placing
 pub mod Pivoting
 pub mod Tables
+pub mod Exchange

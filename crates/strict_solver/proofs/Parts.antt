@@ -1,6 +1,7 @@
 -- The rows of a block of numbers, and what a write to one row leaves.
-use Rattle.std.proofs.Common.{◌≡◌, ◌≢◌, ℕ, suc, ◌+◌, ◌-◌, ◌*◌, ◌<◌, ◌≤◌, ◌⊎◌, inl, inr, sym, ap, ◌∙◌, arith, ℤ, pos, List, length, get_or, take, drop, mul-le-mul}
+use Rattle.std.proofs.Common.{◌≡◌, ◌≢◌, ℕ, suc, ◌+◌, ◌-◌, ◌*◌, ◌<◌, ◌≤◌, ◌⊎◌, inl, inr, sym, ap, ◌∙◌, arith, ℤ, pos, List, ◌++◌, length, get_or, take, drop, mul-le-mul}
 use Rattle.std.specs.List.{between}
+use Rattle.std.proofs.lemmas.List.{take_at, length-append, length-take-le, length-drop}
 use Rattle.std.proofs.lemmas.List.Edits.{length-between, get_or-between}
 use Rattle.std.proofs.lemmas.Slice.{between_is, between-put_mid, take-put_mid_below, drop-put_mid}
 use borrow.Rule.Slice.PartMut.{put_mid}
@@ -35,3 +36,16 @@ module _ (s : ℕ) (cells ys : List ℤ) (r : ℕ) (h : r * s + s ≤ length cel
       by (inr i) =
           let b = row_before s r q i in
           ap (take (q * s + s - q * s)) (drop-put_mid (r * s) (r * s + s - r * s) cells ys (q * s) (omega arith) (omega arith) (omega arith))
+
+-- a block that was lent whole and comes back
+pub lent_back : (n : ℕ) (xs items : List ℤ) → length xs ≡ n → take n (xs ++ drop (length xs) items) ≡ xs
+lent_back n xs items e = take_at xs (drop (length xs) items) n e
+
+pub put_length : (a k : ℕ) (xs ys : List ℤ) → a + k ≤ length xs → length ys ≡ k → length (put_mid a k xs ys) ≡ length xs
+put_length a k xs ys h l =
+    length-append (take a xs) (ys ++ drop k (drop a xs))
+    ∙ (let t = length-take-le a xs (omega arith) in
+    let d = length-append ys (drop k (drop a xs)) in
+    let e = length-drop k (drop a xs) in
+    let f = length-drop a xs in
+    omega arith)

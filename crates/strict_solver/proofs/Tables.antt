@@ -79,7 +79,7 @@ get_line ls v o e = (from_place ls v None o e).1
 
 -- ---- after a pivot
 module _ (columns width : ℕ) (places : List Place) (h : IsPlacing columns places) (x y r p : ℕ) (ex : slice_get places x ≡ Some (Row r)) (ey : slice_get places y ≡ Some (Column p)) (old mid : List ℤ)
-    (low : (q : ℕ) → columns + q < length places → IsLowRow width (row_at (columns + 2) old q))
+    (low : (v q : ℕ) → slice_get places v ≡ Some (Row q) → IsLowRow width (row_at (columns + 2) old q))
     (rows : (q : ℕ) → columns + q < length places → length (row_at (columns + 2) old q) ≡ columns + 2)
     (some : number (row_at (columns + 2) old r) p ≢ pos 0) (solved : IsSolvedRow (row_at (columns + 2) old r) p (row_at (columns + 2) mid r)) where
   r_within : columns + r < length places
@@ -92,7 +92,7 @@ module _ (columns width : ℕ) (places : List Place) (h : IsPlacing columns plac
   new_count = solved.count ∙ rows r r_within
 
   pub new_low : IsLowRow width (row_at (columns + 2) mid r)
-  new_low = solved_low p p_after (row_at (columns + 2) old r) (row_at (columns + 2) mid r) some solved width (low r r_within)
+  new_low = solved_low p p_after (row_at (columns + 2) old r) (row_at (columns + 2) mid r) some solved width (low x r ex)
 
   new_line : IsReduced (solved_for (line_in places (row_at (columns + 2) old r)) x y) (line_in (set (set places x (Column p)) y (Row r)) (row_at (columns + 2) mid r))
   new_line = solved_line columns places h x y r p ex ey (row_at (columns + 2) old r) (row_at (columns + 2) mid r) new_count some solved new_low.lowest
@@ -102,7 +102,7 @@ module _ (columns width : ℕ) (places : List Place) (h : IsPlacing columns plac
       → IsReduced (with_put_in (line_in places (row_at (columns + 2) old q)) y (line_in (set (set places x (Column p)) y (Row r)) (row_at (columns + 2) mid r))) (line_in (set (set places x (Column p)) y (Row r)) new)
   put_there v q new e c =
       let l = h.rows_within v q e in
-      put_line columns places h x y r p ex ey (row_at (columns + 2) old q) (row_at (columns + 2) mid r) new (c.count ∙ rows q l) c (low q l).positive new_low.positive new_count (rows q l)
+      put_line columns places h x y r p ex ey (row_at (columns + 2) old q) (row_at (columns + 2) mid r) new (c.count ∙ rows q l) c (low v q e).positive new_low.positive new_count (rows q l)
 
   row_apart : (v q : ℕ) → v ≢ x → slice_get places v ≡ Some (Row q) → q ≢ r
   row_apart v q n e f = n (h.apart v x (Row r) (e ∙ ap (λ k. Some (Row k)) f) ex)
@@ -113,7 +113,7 @@ module _ (columns width : ℕ) (places : List Place) (h : IsPlacing columns plac
   other_low v q new e c n =
       let l = h.rows_within v q e in
       record {
-        positive = combined_positive columns places h x y r p ex ey (row_at (columns + 2) old q) (row_at (columns + 2) mid r) new (c.count ∙ rows q l) c (low q l).positive new_low.positive new_count (rows q l);
+        positive = combined_positive columns places h x y r p ex ey (row_at (columns + 2) old q) (row_at (columns + 2) mid r) new (c.count ∙ rows q l) c (low v q e).positive new_low.positive new_count (rows q l);
         narrow = n;
         lowest = c.lowest;
       }
@@ -175,7 +175,7 @@ module _ (columns width : ℕ) (places : List Place) (h : IsPlacing columns plac
 
   -- ---- where a row is wide
   old_table : IsTable (lines_by (columns + 2) places old)
-  old_table = lines-table (columns + 2) places old (λ v q e. (low q (h.rows_within v q e)).positive)
+  old_table = lines-table (columns + 2) places old (λ v q e. (low v q e).positive)
 
   pub pivotable : IsPivotable x y (lines_by (columns + 2) places old)
   pivotable = record {

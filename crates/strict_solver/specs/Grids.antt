@@ -74,7 +74,7 @@ pub record IsGrid (width : ℕ) (g : Grid) : Type 0 where
   pub few : g.columns ≤ 400
   pub placing : IsPlacing g.columns g.places.items
   pub room : (r : ℕ) → g.columns + r < length g.places.items → r * (g.columns + 2) + (g.columns + 2) ≤ length g.cells.items
-  pub low : (r : ℕ) → g.columns + r < length g.places.items → IsLowRow width (row_at (g.columns + 2) g.cells.items r)
+  pub low : (v r : ℕ) → slice_get g.places.items v ≡ Some (Row r) → IsLowRow width (row_at (g.columns + 2) g.cells.items r)
   pub pivot : length g.pivot.numbers.items ≡ g.columns + 2
   pub scratch : length g.scratch.items ≡ g.columns + 2
 

@@ -1,7 +1,7 @@
 //! The grid of numbers that stands for the rows of the basic variables.
-ghost use Rattle.std.specs.Prelude.{◌≡◌, ◌≢◌, ℕ, ◌+◌, ◌*◌, ◌≤◌, length, MatchOption, MatchBool};
+ghost use Rattle.std.specs.Prelude.{◌≡◌, ◌≢◌, ℕ, ◌+◌, ◌*◌, ◌<◌, ◌≤◌, pos, length, slice_get, slice_set, MatchOption, MatchBool};
 ghost use Rattle.strict_solver.specs.Grids.{row_at, IsEliminated, IsPivotRow, AreRowsFor, AreEliminated, IsFirstWideRow};
-ghost use Rattle.strict_solver.specs.Rows.{AreNarrow, IsWideRow, IsLowRow};
+ghost use Rattle.strict_solver.specs.Rows.{number, IsSolvedRow, AreNarrow, IsWideRow, IsLowRow};
 
 use crate::place::Place;
 use crate::row::{PivotRow, eliminate, first_wide_number, solve_for};
@@ -77,14 +77,29 @@ fn eliminate_rows(
 }
 
 impl Grid {
-    /// The pivot on a basic variable and another one. The answer is the first wide number of the table after it.
-    pub fn pivot(&mut self, leaving: usize, entering: usize, width: u8) -> Option<i128> {
-        let Place::Row(r) = self.places[leaving] else {
-            unreachable!();
-        };
-        let Place::Column(p) = self.places[entering] else {
-            unreachable!();
-        };
+    ghost use Rattle.ntfe_model.specs.Solver.{IsPivot};
+    ghost use Rattle.strict_solver.specs.Grids.{lines_of, IsGrid, HasSameSize, IsPivotable, IsWidePivot};
+
+    /// Solves a row for a column, and takes the solved row as the pivot row.
+    fn take_pivot_row(&mut self, r: usize, p: usize)
+        requires few { self.old.columns ≤ 400 }
+        requires room { r * (self.old.columns + 2) + (self.old.columns + 2) ≤ length self.old.cells.items }
+        requires row { AreNarrow 62 (row_at (self.old.columns + 2) self.old.cells.items r) }
+        requires after { 2 ≤ p }
+        requires within { p < self.old.columns + 2 }
+        requires some { number (row_at (self.old.columns + 2) self.old.cells.items r) p ≢ pos 0 }
+        requires count { length self.old.pivot.numbers.items ≡ self.old.columns + 2 }
+        ensures columns { self.new.columns ≡ self.old.columns }
+        ensures places { self.new.places ≡ self.old.places }
+        ensures scratch { self.new.scratch ≡ self.old.scratch }
+        ensures cells { length self.new.cells.items ≡ length self.old.cells.items }
+        ensures solved { IsSolvedRow (row_at (self.old.columns + 2) self.old.cells.items r) p (row_at (self.old.columns + 2) self.new.cells.items r) }
+        ensures others { (q : ℕ) → q ≢ r → row_at (self.old.columns + 2) self.new.cells.items q ≡ row_at (self.old.columns + 2) self.old.cells.items q }
+        ensures row { self.new.pivot.row ≡ r }
+        ensures column { self.new.pivot.column ≡ p }
+        ensures denominator { self.new.pivot.denominator ≡ number (row_at (self.old.columns + 2) self.new.cells.items r) 0 }
+        ensures numbers { self.new.pivot.numbers.items ≡ slice_set (row_at (self.old.columns + 2) self.new.cells.items r) 0 (pos 0) }
+    {
         let stride = self.columns + 2;
         let row = &mut self.cells[r * stride..r * stride + stride];
         solve_for(row, p);
@@ -93,15 +108,45 @@ impl Grid {
         self.pivot.denominator = row[0];
         self.pivot.numbers.copy_from_slice(row);
         self.pivot.numbers[0] = 0;
+    }
+
+    /// The pivot on the basic variable of a row and on the variable of a column. The answer is the first wide number of the table after it.
+    fn exchange(&mut self, leaving: usize, entering: usize, r: usize, p: usize, width: u8) -> Option<i128>
+        requires low { 1 ≤ width }
+        requires high { width ≤ 62 }
+        requires grid { IsGrid width self.old }
+        requires leaves { slice_get self.old.places.items leaving ≡ Some (Place.Row r) }
+        requires enters { slice_get self.old.places.items entering ≡ Some (Place.Column p) }
+        requires some { number (row_at (self.old.columns + 2) self.old.cells.items r) p ≢ pos 0 }
+        ensures size { HasSameSize self.old self.new }
+        ensures answer { MatchOption result
+            (IsGrid width self.new × IsPivot leaving entering (lines_of self.old) (lines_of self.new))
+            (λ z. IsWidePivot width leaving entering (lines_of self.old) z) }
+    {
+        self.take_pivot_row(r, p);
         self.places[leaving] = Place::Column(p);
         self.places[entering] = Place::Row(r);
-        eliminate_rows(
-            &mut self.cells,
-            &self.places,
-            &self.pivot,
-            &mut self.scratch,
-            width,
-        )
+        eliminate_rows(&mut self.cells, &self.places, &self.pivot, &mut self.scratch, width)
+    }
+
+    /// The pivot on a basic variable and another one. The answer is the first wide number of the table after it.
+    pub fn pivot(&mut self, leaving: usize, entering: usize, width: u8) -> Option<i128>
+        requires low { 1 ≤ width }
+        requires high { width ≤ 62 }
+        requires grid { IsGrid width self.old }
+        requires can { IsPivotable leaving entering (lines_of self.old) }
+        ensures size { HasSameSize self.old self.new }
+        ensures answer { MatchOption result
+            (IsGrid width self.new × IsPivot leaving entering (lines_of self.old) (lines_of self.new))
+            (λ z. IsWidePivot width leaving entering (lines_of self.old) z) }
+    {
+        let Place::Row(r) = self.places[leaving] else {
+            unreachable!();
+        };
+        let Place::Column(p) = self.places[entering] else {
+            unreachable!();
+        };
+        self.exchange(leaving, entering, r, p, width)
     }
 
     /// The first basic slack that has a height.

@@ -1,2 +1,2 @@
-use Rattle.strict_solver.proofs.Tables.{step_wide}
+use Rattle.strict_solver.proofs.Exchange.{wide_pivot}
 use Rattle.strict_solver.proofs.probe.Goals as goal
