@@ -23,3 +23,4 @@ pub mod Placing
 pub mod Pivoting
 pub mod Tables
 pub mod Exchange
+pub mod Searches

@@ -1,7 +1,7 @@
 -- The rows of a block of numbers, and what a write to one row leaves.
 use Rattle.std.proofs.Common.{◌≡◌, ◌≢◌, ℕ, suc, ◌+◌, ◌-◌, ◌*◌, ◌<◌, ◌≤◌, ◌⊎◌, inl, inr, sym, ap, ◌∙◌, arith, ℤ, pos, List, ◌++◌, length, get_or, take, drop, mul-le-mul}
 use Rattle.std.specs.List.{between}
-use Rattle.std.proofs.lemmas.List.{take_at, length-append, length-take-le, length-drop}
+use Rattle.std.proofs.lemmas.List.{take_at, get_or_read, length-append, length-take-le, length-drop}
 use Rattle.std.proofs.lemmas.List.Edits.{length-between, get_or-between}
 use Rattle.std.proofs.lemmas.Slice.{between_is, between-put_mid, take-put_mid_below, drop-put_mid}
 use borrow.Rule.Slice.PartMut.{put_mid}
@@ -49,3 +49,7 @@ put_length a k xs ys h l =
     let e = length-drop k (drop a xs) in
     let f = length-drop a xs in
     omega arith)
+
+-- what was read at a place of a row
+pub cell_read : (s : ℕ) (cells : List ℤ) (r k : ℕ) (z : ℤ) → k < s → r * s + s ≤ length cells → z ≡ get_or cells (r * s + k) z → z ≡ get_or (row_at s cells r) k (pos 0)
+cell_read s cells r k z h l e = get_or_read cells (r * s + k) z (omega arith) e (pos 0) ∙ sym (row_number s cells r k h)

@@ -77,7 +77,9 @@ fn eliminate_rows(
 }
 
 impl Grid {
-    ghost use Rattle.ntfe_model.specs.Solver.{IsPivot};
+    ghost use Rattle.std.specs.Prelude.{not};
+    ghost use Rattle.std.specs.Ordering.{int_eq};
+    ghost use Rattle.ntfe_model.specs.Solver.{IsPivot, coefficient_at, first_slack, first_negative as first_slack_below, first_entering as first_to_enter};
     ghost use Rattle.strict_solver.specs.Grids.{lines_of, IsGrid, HasSameSize, IsPivotable, IsWidePivot};
 
     /// Solves a row for a column, and takes the solved row as the pivot row.
@@ -149,14 +151,28 @@ impl Grid {
         self.exchange(leaving, entering, r, p, width)
     }
 
+    /// A number of a row.
+    pub fn cell(&self, r: usize, k: usize) -> &i64
+        requires few { self.now.columns ≤ 400 }
+        requires room { r * (self.now.columns + 2) + (self.now.columns + 2) ≤ length self.now.cells.items }
+        requires within { k < self.now.columns + 2 }
+        ensures { result.now ≡ number (row_at (self.now.columns + 2) self.now.cells.items r) k }
+    {
+        &self.cells[r * (self.columns + 2) + k]
+    }
+
     /// The first basic slack that has a height.
-    fn first_with(&self, height: usize) -> Option<usize> {
+    fn first_with(&self, height: usize) -> Option<usize>
+        requires grid { IsGrid 62 self.now }
+        requires height { height < self.now.columns }
+        ensures { result ≡ first_slack self.now.columns (λ r. not (int_eq (coefficient_at r height) (pos 0))) (lines_of self.now) }
+    {
         let Place::Column(p) = self.places[height] else {
             return None;
         };
         for x in self.columns..self.places.len() {
             if let Place::Row(r) = self.places[x] {
-                if self.cells[r * (self.columns + 2) + p] != 0 {
+                if *self.cell(r, p) != 0 {
                     return Some(x);
                 }
             }
@@ -165,10 +181,13 @@ impl Grid {
     }
 
     /// The first basic slack that is negative.
-    fn first_negative(&self) -> Option<usize> {
+    fn first_negative(&self) -> Option<usize>
+        requires { IsGrid 62 self.now }
+        ensures { result ≡ first_slack_below self.now.columns (lines_of self.now) }
+    {
         for x in self.columns..self.places.len() {
             if let Place::Row(r) = self.places[x] {
-                if self.cells[r * (self.columns + 2) + 1] < 0 {
+                if *self.cell(r, 1) < 0 {
                     return Some(x);
                 }
             }
@@ -177,13 +196,17 @@ impl Grid {
     }
 
     /// The first slack that is not basic and has a positive coefficient in the row of a basic variable.
-    fn first_entering(&self, leaving: usize) -> Option<usize> {
+    fn first_entering(&self, leaving: usize) -> Option<usize>
+        requires grid { IsGrid 62 self.now }
+        requires within { leaving < length self.now.places.items }
+        ensures { result ≡ first_to_enter self.now.columns (lines_of self.now) leaving }
+    {
         let Place::Row(r) = self.places[leaving] else {
             return None;
         };
         for y in self.columns..self.places.len() {
             if let Place::Column(p) = self.places[y] {
-                if self.cells[r * (self.columns + 2) + p] > 0 {
+                if *self.cell(r, p) > 0 {
                     return Some(y);
                 }
             }
