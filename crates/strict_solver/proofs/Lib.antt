@@ -24,3 +24,4 @@ pub mod Pivoting
 pub mod Tables
 pub mod Exchange
 pub mod Searches
+pub mod Running

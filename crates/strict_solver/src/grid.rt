@@ -77,9 +77,11 @@ fn eliminate_rows(
 }
 
 impl Grid {
-    ghost use Rattle.std.specs.Prelude.{not};
+    ghost use Rattle.std.specs.Prelude.{not, ℤ, List, IfOk, MatchResult};
+    ghost use Rattle.std.specs.List.{range_with_len};
     ghost use Rattle.std.specs.Ordering.{int_eq};
-    ghost use Rattle.ntfe_model.specs.Solver.{IsPivot, coefficient_at, first_slack, first_negative as first_slack_below, first_entering as first_to_enter};
+    ghost use Rattle.ntfe_model.specs.Solver.{IsPivot, coefficient_at, first_slack, first_negative as first_slack_below, first_entering as first_to_enter, IsWideTable};
+    ghost use Rattle.strict_solver.specs.Runs.{Stands, IsLoadedAt, IsSettled, HasLoaded};
     ghost use Rattle.strict_solver.specs.Grids.{lines_of, IsGrid, HasSameSize, IsPivotable, IsWidePivot};
 
     /// Solves a row for a column, and takes the solved row as the pivot row.
@@ -215,7 +217,15 @@ impl Grid {
     }
 
     /// The loading: each height in turn takes the place of the first slack that has it. The answer is the number of pivots.
-    pub fn load(&mut self, width: u8) -> Result<u64, WideStep> {
+    pub fn load(&mut self, width: u8) -> Result<u64, WideStep>
+        requires low { 1 ≤ width }
+        requires high { width ≤ 62 }
+        requires grid { IsGrid width self.old }
+        ensures size { HasSameSize self.old self.new }
+        ensures grid { IfOk result (λ _. IsGrid width self.new) }
+        ensures run { (rs : List (List ℤ)) → Stands self.old.columns width rs (range_with_len 0 self.old.columns) 0 (lines_of self.old)
+            → MatchResult result (λ step. IsLoadedAt self.old.columns width rs step (lines_of self.new)) (λ wide. IsWideTable self.old.columns rs width wide.step wide.number) }
+    {
         let mut step = 0u64;
         for height in 0..self.columns {
             if let Some(slack) = self.first_with(height) {
@@ -229,7 +239,16 @@ impl Grid {
     }
 
     /// The moving, after so many pivots: the number of pivots at its end, and the slack that can't be mended.
-    pub fn settle(&mut self, pivots: u64, width: u8) -> Result<(u64, Option<usize>), WideStep> {
+    pub fn settle(&mut self, pivots: u64, width: u8) -> Result<(u64, Option<usize>), WideStep>
+        requires low { 1 ≤ width }
+        requires high { width ≤ 62 }
+        requires grid { IsGrid width self.old }
+        requires loaded { HasLoaded self.old.columns (lines_of self.old) }
+        ensures size { HasSameSize self.old self.new }
+        ensures grid { IfOk result (λ _. IsGrid width self.new) }
+        ensures run { (rs : List (List ℤ)) → IsLoadedAt self.old.columns width rs pivots (lines_of self.old)
+            → MatchResult result (λ r. IsSettled self.old.columns width rs r.0 r.1 (lines_of self.new)) (λ wide. IsWideTable self.old.columns rs width wide.step wide.number) }
+    {
         let mut step = pivots;
         while let Some(leaving) = self.first_negative() {
             let Some(entering) = self.first_entering(leaving) else {
