@@ -25,3 +25,5 @@ pub mod Tables
 pub mod Exchange
 pub mod Searches
 pub mod Running
+pub mod Starting
+pub mod PlacingAll

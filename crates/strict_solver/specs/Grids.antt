@@ -99,3 +99,11 @@ pub record IsWidePivot (width x y : ℕ) (s : List (Option Line)) (number : ℤ)
   pub table : List (Option Line)
   pub is : IsPivot x y s table
   pub first : first_wide width (flat_map line_or_nothing table) ≡ Some number
+
+-- the grid has the memory that it had
+pub record HasSameRoom (g h : Grid) : Type 0 where
+  pub columns : h.columns ≡ g.columns
+  pub cells : length h.cells.items ≡ length g.cells.items
+  pub capacity : vec_capacity h.places ≡ vec_capacity g.places
+  pub pivot : length h.pivot.numbers.items ≡ length g.pivot.numbers.items
+  pub scratch : length h.scratch.items ≡ length g.scratch.items

@@ -1,3 +1,4 @@
 pub mod Rows
 pub mod Grids
 pub mod Runs
+pub mod Starts
