@@ -27,3 +27,4 @@ pub mod Searches
 pub mod Running
 pub mod Starting
 pub mod PlacingAll
+pub mod Opening

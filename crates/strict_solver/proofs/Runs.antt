@@ -46,7 +46,7 @@ zero_at zero k = refl
 zero_at (suc n) zero = refl
 zero_at (suc n) (suc k) = zero_at n k
 
-after_row : (es : List ℤ) (n k : ℕ) → length es ≤ k → get_or (es ++ replicate n (pos 0)) k (pos 0) ≡ pos 0
+pub after_row : (es : List ℤ) (n k : ℕ) → length es ≤ k → get_or (es ++ replicate n (pos 0)) k (pos 0) ≡ pos 0
 after_row [] n k h = zero_at n k
 after_row (e ∷ es) n zero h = absurd (omega arith)
 after_row (e ∷ es) n (suc k) h = after_row es n k (omega arith)

@@ -1,7 +1,7 @@
 //! The start of the solver: the rows of the folds.
-ghost use Rattle.std.specs.Prelude.{◌≡◌, ℕ, ◌+◌, ◌-◌, ◌*◌, ◌^◌, ◌<◌, ◌≤◌, pos, ◌+ℤ◌, length, map, slice_index_or, unsigned_abs, neg_ℤ, vec_capacity, MatchOption};
+ghost use Rattle.std.specs.Prelude.{◌≡◌, ℕ, ◌+◌, ◌-◌, ◌*◌, ◌^◌, ◌<◌, ◌≤◌, pos, ◌+ℤ◌, length, map, slice_index_or, unsigned_abs, neg_ℤ, vec_capacity, MatchOption, MatchBool, ◌≢◌};
 ghost use Rattle.ntfe_model.specs.Certificates.{where_equal};
-ghost use Rattle.strict_solver.specs.Rows.{number};
+ghost use Rattle.strict_solver.specs.Rows.{number, AreNarrow, IsWideRow};
 ghost use Rattle.strict_solver.specs.Starts.{IsFoldOver, IsStartRow};
 
 use crate::grid::Grid;
@@ -54,7 +54,7 @@ impl Grid {
     ghost use Rattle.std.specs.Prelude.{ℤ, List, slice_get};
     ghost use Rattle.std.specs.List.{range_with_len};
     ghost use Rattle.ntfe_model.specs.Solver.{fold_row, IsWideTable};
-    ghost use Rattle.strict_solver.specs.Grids.{lines_of, IsGrid, HasSameRoom};
+    ghost use Rattle.strict_solver.specs.Grids.{row_at, lines_of, IsGrid, HasSameRoom};
     ghost use Rattle.strict_solver.specs.Runs.{Stands};
     ghost use Rattle.strict_solver.specs.Starts.{IsStartPlacing, HasRoomFor, AreFoldsOver};
 
@@ -78,6 +78,29 @@ impl Grid {
         }
     }
 
+    /// Writes the row of a fold, unless it is wide: then the answer is false, and the row stands in the scratch.
+    fn open_row(&mut self, r: usize, fold: &Fold, width: u8) -> bool
+        requires low { 1 ≤ width }
+        requires high { width ≤ 62 }
+        requires few { self.old.columns ≤ 400 }
+        requires room { r * (self.old.columns + 2) + (self.old.columns + 2) ≤ length self.old.cells.items }
+        requires scratch { length self.old.scratch.items ≡ self.old.columns + 2 }
+        requires fold { IsFoldOver self.old.columns fold.now }
+        ensures columns { self.new.columns ≡ self.old.columns }
+        ensures places { self.new.places ≡ self.old.places }
+        ensures pivot { self.new.pivot ≡ self.old.pivot }
+        ensures cells { length self.new.cells.items ≡ length self.old.cells.items }
+        ensures scratch { length self.new.scratch.items ≡ self.old.columns + 2 }
+        ensures others { (q : ℕ) → q ≢ r → row_at (self.old.columns + 2) self.new.cells.items q ≡ row_at (self.old.columns + 2) self.old.cells.items q }
+        ensures answer { MatchBool result
+            (IsStartRow self.old.columns fold.now (row_at (self.old.columns + 2) self.new.cells.items r) × AreNarrow width (row_at (self.old.columns + 2) self.new.cells.items r))
+            (IsStartRow self.old.columns fold.now self.new.scratch.items × IsWideRow width self.new.scratch.items) }
+    {
+        let stride = self.columns + 2;
+        write_fold(&mut self.scratch, fold);
+        store(&self.scratch, width, &mut self.cells[r * stride..r * stride + stride])
+    }
+
     /// The start: the rows of the folds. The answer is its first wide number.
     pub fn start(&mut self, folds: &[Fold], width: u8) -> Option<i128>
         requires low { 1 ≤ width }
@@ -91,10 +114,8 @@ impl Grid {
             (λ z. IsWideTable self.old.columns (map (fold_row self.old.columns) folds.now) width 0 z) }
     {
         self.place_all(folds.len());
-        let stride = self.columns + 2;
         for r in 0..folds.len() {
-            write_fold(&mut self.scratch, &folds[r]);
-            if !store(&self.scratch, width, &mut self.cells[r * stride..r * stride + stride]) {
+            if !self.open_row(r, &folds[r], width) {
                 return first_wide_number(&self.scratch, &self.places, width);
             }
         }

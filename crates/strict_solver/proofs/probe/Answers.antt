@@ -1,2 +1,2 @@
-use Rattle.strict_solver.proofs.PlacingAll.{start_placing}
+use Rattle.strict_solver.proofs.Opening.{opened_wide}
 use Rattle.strict_solver.proofs.probe.Goals as goal
