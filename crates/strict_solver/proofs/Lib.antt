@@ -28,3 +28,5 @@ pub mod Running
 pub mod Starting
 pub mod PlacingAll
 pub mod Opening
+pub mod Denominators
+pub mod Scaling

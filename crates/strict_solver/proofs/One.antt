@@ -10,13 +10,13 @@ use Rattle.ntfe_nums.proofs.Ring.Expression.{var, minus, times}
 use Rattle.strict_solver.proofs.Forms.{length_mapped, pos_some, back}
 
 -- k and n in lowest terms a / b, and all solutions of k z = n z'
-record Lowest (k n : ℕ) : Type 0 where
-  g : ℕ
-  a : ℕ
-  b : ℕ
-  first : k ≡ g * a
-  second : n ≡ g * b
-  all : (x y : ℕ) → k * x ≡ n * y → (c : ℕ) × (x ≡ b * c) × (y ≡ a * c)
+pub record Lowest (k n : ℕ) : Type 0 where
+  pub g : ℕ
+  pub a : ℕ
+  pub b : ℕ
+  pub first : k ≡ g * a
+  pub second : n ≡ g * b
+  pub all : (x y : ℕ) → k * x ≡ n * y → (c : ℕ) × (x ≡ b * c) × (y ≡ a * c)
 
 distributes : (g a b : ℕ) → g * (a + b) ≡ g * a + g * b
 distributes g a b = omega arith
@@ -59,7 +59,7 @@ bigger n e p l = record {
         let q : x ≡ y + 1 + (x - (y + 1)) = omega arith in
         absurd (never y (x - (y + 1)) (ap (λ z. (n + e) * z) (sym q) ∙ h))
 
-lowest : (fuel k n : ℕ) → 0 < k → 0 < n → k + n ≤ fuel → Lowest k n
+pub lowest : (fuel k n : ℕ) → 0 < k → 0 < n → k + n ≤ fuel → Lowest k n
 lowest zero k n h i f = absurd (omega arith)
 lowest (suc fuel) k n h i f = by (let c : (k ≡ n) ⊎ (k < n) ⊎ (n < k) = grind arith in c) (lowest fuel)
   where

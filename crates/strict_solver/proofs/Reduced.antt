@@ -11,11 +11,8 @@ use Rattle.std.proofs.lemmas.List.{get_or-map, length-map}
 use Rattle.std.proofs.lemmas.Nat.Gcd.{IsGcd-from_zero, IsGcd-from_mod, dvd_trans, dvd-zero}
 use Rattle.std.proofs.Math.Nat.{pos_of_dvd_of_pos, mul-dvd-mul_left, dvd_of_mul-dvd-mul_left, eq-one_of_dvd-one}
 use Rattle.ntfe_model.specs.Solver.{Line, line_numbers, IsReduced}
+use Rattle.strict_solver.specs.Scales.{gcd_by}
 use Rattle.strict_solver.proofs.Rows.{exact_quotient}
-
-abbrev pub gcd_by : ℕ → ℕ → ℕ → ℕ
-gcd_by zero a b = a
-gcd_by (suc f) a b = cond (eqb b 0) a (gcd_by f b (a % b))
 
 pub gcd_by-is : (f a b : ℕ) → b ≤ f → IsGcd a b (gcd_by f a b)
 gcd_by-is zero a b h = IsGcd-from_zero a b (omega arith)

@@ -2,3 +2,4 @@ pub mod Rows
 pub mod Grids
 pub mod Runs
 pub mod Starts
+pub mod Scales

@@ -1,2 +1,3 @@
-use Rattle.strict_solver.proofs.Opening.{opened_wide}
+use Rattle.strict_solver.proofs.Denominators.{multiple_positive}
+use Rattle.strict_solver.proofs.Scaling.{wide_at}
 use Rattle.strict_solver.proofs.probe.Goals as goal

@@ -1,0 +1,2 @@
+use Rattle.strict_solver.proofs.scale.next_scale.Goals as goal
+
