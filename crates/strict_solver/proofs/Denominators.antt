@@ -134,3 +134,6 @@ module _ (m n : ℕ) (pm : 0 < m) (pn : 0 < n) where
 
       multiple_first' : common_multiple m n ∣ m * n
       multiple_first' = multiple_least (m * n) (dvd-mul_right m n) (dvd-mul_left n m)
+
+pub gcd_first_positive : (k n : ℕ) → 0 < k → 0 < gcd_of k n
+gcd_first_positive k n p = pos_of_dvd_of_pos (gcd_of-is k n).0 p

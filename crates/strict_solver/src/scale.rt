@@ -38,10 +38,40 @@ fn scaled(scale: u64, d: &i64, c: &i64) -> i128
 }
 
 impl Grid {
-    ghost use Rattle.std.specs.Prelude.{◌++◌, MatchOption, MatchResult, Some, None};
+    ghost use Rattle.std.specs.Prelude.{◌++◌, slice_index_or, MatchOption, MatchResult, Some, None};
     ghost use Rattle.ntfe_model.specs.Solver.{first_wide, scaling_numbers};
     ghost use Rattle.strict_solver.specs.Grids.{lines_of, IsGrid};
-    ghost use Rattle.strict_solver.specs.Scales.{scale_to, scales_of, heights_by};
+    ghost use Rattle.strict_solver.specs.Scales.{scale_next, scale_to, scales_of, height_by, heights_by};
+
+    /// The scale with one more height.
+    fn scale_after(&self, k: usize, scale: u64) -> u128
+        requires grid { IsGrid 62 self.now }
+        requires within { k < self.now.columns }
+        requires some { 0 < scale }
+        requires small { scale < 2 ^ 62 }
+        ensures value { result ≡ scale_next scale (slice_index_or (lines_of self.now) k None) }
+        ensures size { result < 2 ^ 124 }
+        ensures positive { 0 < result }
+    {
+        match self.places[k] {
+            Place::Row(r) => next_scale(scale, self.cell(r, 0), self.cell(r, 1)),
+            Place::Column(_) => u128::from(scale),
+        }
+    }
+
+    /// A height times the scale.
+    fn height_at(&self, k: usize, scale: u64) -> i128
+        requires grid { IsGrid 62 self.now }
+        requires within { k < self.now.columns }
+        requires small { scale < 2 ^ 62 }
+        ensures value { result ≡ height_by scale (slice_index_or (lines_of self.now) k None) }
+        ensures size { unsigned_abs result < 2 ^ 126 }
+    {
+        match self.places[k] {
+            Place::Row(r) => scaled(scale, self.cell(r, 0), self.cell(r, 1)),
+            Place::Column(_) => 0,
+        }
+    }
 
     /// The least number that makes the heights whole, or the first wide one on the way.
     fn common_scale(&self, width: u8) -> Result<u64, i128>
@@ -54,13 +84,11 @@ impl Grid {
     {
         let mut scale = 1u64;
         for k in 0..self.columns {
-            if let Place::Row(r) = self.places[k] {
-                let next = next_scale(scale, self.cell(r, 0), self.cell(r, 1));
-                if next >> width != 0 {
-                    return Err(next as i128);
-                }
-                scale = next as u64;
+            let next = self.scale_after(k, scale);
+            if next >> width != 0 {
+                return Err(next as i128);
             }
+            scale = next as u64;
         }
         Ok(scale)
     }
@@ -77,10 +105,7 @@ impl Grid {
             (λ z. first_wide width (heights_by self.now.columns scale (lines_of self.now)) ≡ Some z) }
     {
         for k in 0..self.columns {
-            let mut height = 0;
-            if let Place::Row(r) = self.places[k] {
-                height = scaled(scale, self.cell(r, 0), self.cell(r, 1));
-            }
+            let height = self.height_at(k, scale);
             let Some(number) = narrow(height, width) else {
                 return Some(height);
             };
