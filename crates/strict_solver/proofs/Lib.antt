@@ -30,3 +30,4 @@ pub mod PlacingAll
 pub mod Opening
 pub mod Denominators
 pub mod Scaling
+pub mod Multipliers

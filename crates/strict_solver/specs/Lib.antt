@@ -3,3 +3,6 @@ pub mod Grids
 pub mod Runs
 pub mod Starts
 pub mod Scales
+pub mod Answers
+pub mod Outcomes
+pub mod Solving

@@ -6,11 +6,13 @@ ghost use Rattle.std.specs.Prelude.{◌≡◌, true};
 mod grid;
 mod place;
 mod row;
+mod run;
 mod scale;
 mod start;
 mod tableau;
 
-pub use tableau::{Solved, Tableau};
+pub use run::Solved;
+pub use tableau::Tableau;
 
 #[allow(dead_code)]
 fn probe(x: u8) -> bool

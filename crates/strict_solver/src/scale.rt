@@ -38,8 +38,8 @@ fn scaled(scale: u64, d: &i64, c: &i64) -> i128
 }
 
 impl Grid {
-    ghost use Rattle.std.specs.Prelude.{◌++◌, slice_index_or, MatchOption, MatchResult, Some, None};
-    ghost use Rattle.ntfe_model.specs.Solver.{first_wide, scaling_numbers};
+    ghost use Rattle.std.specs.Prelude.{◌++◌, ◌-◌, vec_capacity, slice_index_or, MatchOption, MatchResult, Some, None};
+    ghost use Rattle.ntfe_model.specs.Solver.{Line, first_wide, scaling_numbers, multiplier_at, multipliers_of};
     ghost use Rattle.strict_solver.specs.Grids.{lines_of, IsGrid};
     ghost use Rattle.strict_solver.specs.Scales.{scale_next, scale_to, scales_of, height_by, heights_by};
 
@@ -131,7 +131,13 @@ impl Grid {
     }
 
     /// The multiplier of a row in the row of a slack.
-    fn multiplier(&self, slack: usize, row: usize) -> i64 {
+    fn multiplier(&self, slack: usize, row: usize) -> i64
+        requires grid { IsGrid 62 self.now }
+        requires slack { slack < length self.now.places.items }
+        requires row { self.now.columns + row < length self.now.places.items }
+        ensures value { (line : Line) → slice_index_or (lines_of self.now) slack None ≡ Some line → result ≡ multiplier_at self.now.columns slack line row }
+        ensures size { unsigned_abs result < 2 ^ 62 }
+    {
         let Place::Row(r) = self.places[slack] else {
             return 0;
         };
@@ -145,7 +151,15 @@ impl Grid {
     }
 
     /// Writes the multipliers that are not 0, rows rising.
-    pub fn write_multipliers(&self, slack: usize, multipliers: &mut Vec<(u32, i64)>) {
+    pub fn write_multipliers(&self, slack: usize, multipliers: &mut Vec<(u32, i64)>)
+        requires grid { IsGrid 62 self.now }
+        requires slack { slack < length self.now.places.items }
+        requires room { length self.now.places.items ≤ self.now.columns + vec_capacity multipliers.old }
+        requires few { length self.now.places.items < self.now.columns + 2 ^ 32 }
+        ensures capacity { vec_capacity multipliers.new ≡ vec_capacity multipliers.old }
+        ensures value { (line : Line) → slice_index_or (lines_of self.now) slack None ≡ Some line
+            → multipliers.new.items ≡ multipliers_of self.now.columns (length self.now.places.items - self.now.columns) slack line }
+    {
         multipliers.clear();
         for row in 0..self.places.len() - self.columns {
             let times = self.multiplier(slack, row);
