@@ -84,7 +84,7 @@ module _ (width x y r p : ℕ) (old : Grid) (mid : List ℤ) (h : IsGrid width o
 
   module _ (now : List ℤ) (count : length now ≡ length old.cells.items) (same : row_at (old.columns + 2) now r ≡ row_at (old.columns + 2) mid r)
       (done : (v q : ℕ) → slice_get (set (set old.places.items x (Column p)) y (Row r)) v ≡ Some (Row q) → q ≢ r
-        → IsCombination (row_at (old.columns + 2) mid q) p (set (row_at (old.columns + 2) mid r) 0 (pos 0)) (number (row_at (old.columns + 2) mid r) 0) (row_at (old.columns + 2) now q) × AreNarrow width (row_at (old.columns + 2) now q)) where
+      → IsCombination (row_at (old.columns + 2) mid q) p (set (row_at (old.columns + 2) mid r) 0 (pos 0)) (number (row_at (old.columns + 2) mid r) 0) (row_at (old.columns + 2) now q) × AreNarrow width (row_at (old.columns + 2) now q)) where
     pub pivoted : IsPivot x y (lines_by (old.columns + 2) old.places.items old.cells.items) (lines_by (old.columns + 2) (set (set old.places.items x (Column p)) y (Row r)) now)
     pivoted =
         grid_pivot old.columns width old.places.items h.placing x y r p ex ey old.cells.items mid h.low rows some solved now same
@@ -111,21 +111,23 @@ module _ (width x y r p : ℕ) (old : Grid) (mid : List ℤ) (h : IsGrid width o
         let P : ℕ → Type 0 = λ k. IsPlacing k (set (set old.places.items x (Column p)) y (Row r)) in
         let Q : List Place → Type 0 = λ k. IsPlacing new.columns k in
         let lines : lines_of new ≡ lines_by (old.columns + 2) (set (set old.places.items x (Column p)) y (Row r)) now = λ i. lines_by (ec i + 2) (ep i) (en i) in
-        let T : List (Option Line) → Type 0 = λ k. IsPivot x y (lines_of old) k in
-        (record {
-          few = (let a = h.few in let d = ec in omega arith);
-          placing = subst Q (sym ep) (subst P (sym ec) after);
-          room = λ q l. (let R : ℕ → Type 0 = λ k. q * (k + 2) + (k + 2) ≤ length now in
-            let S : List ℤ → Type 0 = λ k. q * (new.columns + 2) + (new.columns + 2) ≤ length k in
-            let d = ap (λ (k : List Place). length k) ep in
-            subst S (sym en) (subst R (sym ec) (room q (let b = ec in omega arith))));
-          low = λ v q e. (let R : ℕ → Type 0 = λ k. IsLowRow width (row_at (k + 2) now q) in
-            let S : List ℤ → Type 0 = λ k. IsLowRow width (row_at (new.columns + 2) k q) in
-            let U : List Place → Type 0 = λ k. slice_get k v ≡ Some (Row q) in
-            subst S (sym en) (subst R (sym ec) (now_low v q (subst U ep e))));
-          pivot = numbers ∙ ap (λ k. k + 2) (sym ec);
-          scratch = scratch ∙ ap (λ k. k + 2) (sym ec);
-        }, subst T (sym lines) pivoted)
+        let T : List (Option Line) → Type 0 = λ k. IsPivot x y (lines_of old) k in (
+          record {
+            few = (let a = h.few in let d = ec in omega arith);
+            placing = subst Q (sym ep) (subst P (sym ec) after);
+            room = λ q l. (let R : ℕ → Type 0 = λ k. q * (k + 2) + (k + 2) ≤ length now in
+                let S : List ℤ → Type 0 = λ k. q * (new.columns + 2) + (new.columns + 2) ≤ length k in
+                let d = ap (λ (k : List Place). length k) ep in
+                subst S (sym en) (subst R (sym ec) (room q (let b = ec in omega arith))));
+            low = λ v q e. (let R : ℕ → Type 0 = λ k. IsLowRow width (row_at (k + 2) now q) in
+                let S : List ℤ → Type 0 = λ k. IsLowRow width (row_at (new.columns + 2) k q) in
+                let U : List Place → Type 0 = λ k. slice_get k v ≡ Some (Row q) in
+                subst S (sym en) (subst R (sym ec) (now_low v q (subst U ep e))));
+            pivot = numbers ∙ ap (λ k. k + 2) (sym ec);
+            scratch = scratch ∙ ap (λ k. k + 2) (sym ec);
+          },
+          subst T (sym lines) pivoted,
+        )
 
   -- ---- where a row is wide
   module _ (pivot : PivotRow) (row_is : pivot.row ≡ r) (column_is : pivot.column ≡ p) (denominator_is : pivot.denominator ≡ number (row_at (old.columns + 2) mid r) 0)
@@ -160,6 +162,6 @@ module _ (width x y r p : ℕ) (old : Grid) (mid : List ℤ) (h : IsGrid width o
           table = step_lines x y (lines_by (old.columns + 2) old.places.items old.cells.items);
           is = stepped old.columns width old.places.items h.placing x y r p ex ey old.cells.items mid h.low rows some solved;
           first =
-            step_wide old.columns width old.places.items h.placing x y r p ex ey old.cells.items mid h.low rows some solved z f.v f.r (back f.v f.r f.is n) n f.row (old_form f.r f.row n (plainly _ f.row f.form)) f.number
-            (λ u t l e m. let b = f.before u t l (forth u t e m) (λ g. m (g ∙ row_is)) in (b.0, (old_form t b.0 m (plainly _ b.0 b.1.0), b.1.1)));
+              step_wide old.columns width old.places.items h.placing x y r p ex ey old.cells.items mid h.low rows some solved z f.v f.r (back f.v f.r f.is n) n f.row (old_form f.r f.row n (plainly _ f.row f.form)) f.number
+              (λ u t l e m. let b = f.before u t l (forth u t e m) (λ g. m (g ∙ row_is)) in (b.0, (old_form t b.0 m (plainly _ b.0 b.1.0), b.1.1)));
         }

@@ -31,3 +31,4 @@ pub mod Opening
 pub mod Denominators
 pub mod Scaling
 pub mod Multipliers
+pub mod Outcome

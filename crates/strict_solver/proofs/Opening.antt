@@ -186,8 +186,8 @@ module _ (width : ℕ) (old now : Grid) (fs : List Fold) (r : ℕ) (room : HasRo
     end = start_table old.columns (map (fold_row old.columns) fs);
     reaches = record { tables = []; count = refl; run = refl; narrow = λ k t l g. absurd (omega arith) };
     first =
-      table_wide width (start_lines old.columns (length (map (fold_row old.columns) fs)) (map (fold_row old.columns) fs)) (old.columns + r) (start_line (length fs) (fold_row old.columns f)) z (slack_line r f e)
-      (ap (λ k. first_wide width (line_numbers k)) (sym (start_line_is old.columns (length fs) now.places.items h.places f row s)) ∙ w) before;
+        table_wide width (start_lines old.columns (length (map (fold_row old.columns) fs)) (map (fold_row old.columns) fs)) (old.columns + r) (start_line (length fs) (fold_row old.columns f)) z (slack_line r f e)
+        (ap (λ k. first_wide width (line_numbers k)) (sym (start_line_is old.columns (length fs) now.places.items h.places f row s)) ∙ w) before;
     shown = refl;
   }
     where

@@ -97,7 +97,7 @@ module _ (columns width : ℕ) (rs : List (List ℤ)) (steps : ℕ) (t u : Table
           same a b e = cc
 
 -- what is shown of one more step
-shown_more : (step steps next : ℕ) → step ≡ shown_step steps → next ≡ min (step + 1) (2 ^ 64 - 1) → next ≡ shown_step (steps + 1)
+pub shown_more : (step steps next : ℕ) → step ≡ shown_step steps → next ≡ min (step + 1) (2 ^ 64 - 1) → next ≡ shown_step (steps + 1)
 shown_more step steps next e f = f ∙ ap (λ n. min (n + 1) (2 ^ 64 - 1)) e ∙ capped steps (2 ^ 64 - 1)
   where
     capped : (n m : ℕ) → min (min n m + 1) m ≡ min (n + 1) m

@@ -145,11 +145,11 @@ scaling_is columns ls w = record {
   counts = (ranged_length (λ k. scale_to ls (k + 1)) columns, ranged_length (λ k. height_by (scale_to ls columns) (get_or ls k None)) columns);
   scale = λ k h. (let P : ℕ → Type 0 = λ m. IsScale (take (k + 1) ls) m in subst P (sym (ranged_get (λ k. scale_to ls (k + 1)) columns k 0 h)) (scale_is ls w (k + 1)));
   scaled = λ k h. (let P : ℕ → Type 0 = λ m. IsScaled m (get_or ls k None) (get_or (heights_by columns (scale_to ls columns) ls) k (pos 0)) in
-    let Q : ℤ → Type 0 = λ z. IsScaled (scale_to ls columns) (get_or ls k None) z in
-    let least = least_scale ls w columns in
-    subst P (sym (last_is ls columns))
-    (subst Q (sym (ranged_get (λ k. height_by (scale_to ls columns) (get_or ls k None)) columns k (pos 0) h))
-    (height_is (scale_to ls columns) (get_or ls k None) (λ r e. (w k r e).positive) (λ r e. least.whole k r h e))));
+      let Q : ℤ → Type 0 = λ z. IsScaled (scale_to ls columns) (get_or ls k None) z in
+      let least = least_scale ls w columns in
+      subst P (sym (last_is ls columns))
+      (subst Q (sym (ranged_get (λ k. height_by (scale_to ls columns) (get_or ls k None)) columns k (pos 0) h))
+      (height_is (scale_to ls columns) (get_or ls k None) (λ r e. (w k r e).positive) (λ r e. least.whole k r h e))));
 }
 
 -- ---- the first wide number of a list by its places

@@ -29,7 +29,7 @@ unfolding line_or
 both_some o k l e f = ap (line_or k) (sym e ∙ f)
 
 -- ---- wide numbers of a table
-first_wide-append : (width : ℕ) (xs ys : List ℤ) → first_wide width xs ≡ None → first_wide width (xs ++ ys) ≡ first_wide width ys
+pub first_wide-append : (width : ℕ) (xs ys : List ℤ) → first_wide width xs ≡ None → first_wide width (xs ++ ys) ≡ first_wide width ys
 first_wide-append width [] ys e = refl
 first_wide-append width (z ∷ xs) ys e = by (nat_le (2 ^ width) (unsigned_abs z)) e (first_wide-append width xs ys)
   where
@@ -37,7 +37,7 @@ first_wide-append width (z ∷ xs) ys e = by (nat_le (2 ^ width) (unsigned_abs z
     by true f rest = cc
     by false f rest = rest f
 
-first_wide-front : (width : ℕ) (xs ys : List ℤ) (n : ℤ) → first_wide width xs ≡ Some n → first_wide width (xs ++ ys) ≡ Some n
+pub first_wide-front : (width : ℕ) (xs ys : List ℤ) (n : ℤ) → first_wide width xs ≡ Some n → first_wide width (xs ++ ys) ≡ Some n
 first_wide-front width [] ys n e = cc
 first_wide-front width (z ∷ xs) ys n e = by (nat_le (2 ^ width) (unsigned_abs z)) e (first_wide-front width xs ys n)
   where
@@ -134,9 +134,11 @@ module _ (columns width : ℕ) (places : List Place) (h : IsPlacing columns plac
         by : (z ≡ x) ⊎ (z ≡ y) ⊎ ((z ≢ x) × (z ≢ y)) → IsNextLine x y (line_in (set (set places x (Column p)) y (Row r)) (row_at (columns + 2) mid r)) z (get_or (lines_by (columns + 2) places old) z None)
             (get_or (lines_by (columns + 2) (set (set places x (Column p)) y (Row r)) now) z None)
         by (inl e) = inl (e, there z (Column p) (ap (slice_get (set (set places x (Column p)) y (Row r))) e ∙ at_leaving columns places h x y r p ex ey))
-        by (inr (inl e)) = inr (inl (e,
-            there z (Row r) (ap (slice_get (set (set places x (Column p)) y (Row r))) e ∙ at_entering columns places h x y r p ex ey)
-            ∙ ap (λ row. Some (line_in (set (set places x (Column p)) y (Row r)) row)) same))
+        by (inr (inl e)) = inr (inl (
+          e,
+          there z (Row r) (ap (slice_get (set (set places x (Column p)) y (Row r))) e ∙ at_entering columns places h x y r p ex ey)
+              ∙ ap (λ row. Some (line_in (set (set places x (Column p)) y (Row r)) row)) same,
+        ))
         by (inr (inr n)) = let o = some_place places z l in on o.0 o.1
           where
             on : (o : Place) → slice_get places z ≡ Some o → IsNextLine x y (line_in (set (set places x (Column p)) y (Row r)) (row_at (columns + 2) mid r)) z (get_or (lines_by (columns + 2) places old) z None)
@@ -234,7 +236,7 @@ module _ (columns width : ℕ) (places : List Place) (h : IsPlacing columns plac
       (c : IsCombination (row_at (columns + 2) old q) p (set (row_at (columns + 2) mid r) 0 (pos 0)) (number (row_at (columns + 2) mid r) 0) row)
       (first : first_wide width (line_numbers (line_in (set (set places x (Column p)) y (Row r)) row)) ≡ Some number_wide)
       (before : (u t : ℕ) → u < v → slice_get places u ≡ Some (Row t) → t ≢ r
-        → (new : List ℤ) × (IsCombination (row_at (columns + 2) old t) p (set (row_at (columns + 2) mid r) 0 (pos 0)) (number (row_at (columns + 2) mid r) 0) new × AreNarrow width new)) where
+      → (new : List ℤ) × (IsCombination (row_at (columns + 2) old t) p (set (row_at (columns + 2) mid r) 0 (pos 0)) (number (row_at (columns + 2) mid r) 0) new × AreNarrow width new)) where
     v_apart : v ≢ x
     v_apart f = let g : Row q ≡ Row r = same_place places x _ _ (subst (λ k. slice_get places k ≡ Some (Row q)) f e) ex in apart (let i : q ≡ r = cc in i)
 

@@ -27,7 +27,13 @@ pub struct WideStep {
 }
 
 /// Puts the pivot row into one row, unless that row is wide with it: then the answer is false, and the row stands in `scratch`.
-fn eliminate_at(cells: &mut [i64], r: usize, pivot: &PivotRow, scratch: &mut [i128], width: u8) -> bool
+fn eliminate_at(
+    cells: &mut [i64],
+    r: usize,
+    pivot: &PivotRow,
+    scratch: &mut [i128],
+    width: u8,
+) -> bool
     requires low { 1 ≤ width }
     requires high { width ≤ 62 }
     requires pivot { IsPivotRow (length scratch.old) pivot.now }
@@ -115,7 +121,14 @@ impl Grid {
     }
 
     /// The pivot on the basic variable of a row and on the variable of a column. The answer is the first wide number of the table after it.
-    fn exchange(&mut self, leaving: usize, entering: usize, r: usize, p: usize, width: u8) -> Option<i128>
+    fn exchange(
+        &mut self,
+        leaving: usize,
+        entering: usize,
+        r: usize,
+        p: usize,
+        width: u8,
+    ) -> Option<i128>
         requires low { 1 ≤ width }
         requires high { width ≤ 62 }
         requires grid { IsGrid width self.old }
@@ -130,7 +143,13 @@ impl Grid {
         self.take_pivot_row(r, p);
         self.places[leaving] = Place::Column(p);
         self.places[entering] = Place::Row(r);
-        eliminate_rows(&mut self.cells, &self.places, &self.pivot, &mut self.scratch, width)
+        eliminate_rows(
+            &mut self.cells,
+            &self.places,
+            &self.pivot,
+            &mut self.scratch,
+            width,
+        )
     }
 
     /// The pivot on a basic variable and another one. The answer is the first wide number of the table after it.

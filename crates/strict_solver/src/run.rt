@@ -20,7 +20,13 @@ pub enum Solved {
 }
 
 /// Solves the rows of the folds, and writes the heights or the multipliers.
-pub fn run(grid: &mut Grid, rows: &[Fold], width: u8, heights: &mut Vec<i64>, multipliers: &mut Vec<(u32, i64)>) -> Solved
+pub fn run(
+    grid: &mut Grid,
+    rows: &[Fold],
+    width: u8,
+    heights: &mut Vec<i64>,
+    multipliers: &mut Vec<(u32, i64)>,
+) -> Solved
     requires low { 1 ≤ width }
     requires high { width ≤ 62 }
     requires room { HasRoomFor (length rows.now) grid.old }

@@ -98,7 +98,11 @@ impl Grid {
     {
         let stride = self.columns + 2;
         write_fold(&mut self.scratch, fold);
-        store(&self.scratch, width, &mut self.cells[r * stride..r * stride + stride])
+        store(
+            &self.scratch,
+            width,
+            &mut self.cells[r * stride..r * stride + stride],
+        )
     }
 
     /// The start: the rows of the folds. The answer is its first wide number.

@@ -1,7 +1,7 @@
 //! The solver with its memory.
 use crate::grid::Grid;
-use crate::run::{Solved, run};
 use crate::row::PivotRow;
+use crate::run::{Solved, run};
 use ntfe_model::Fold;
 use std::alloc::{AllocError, Global};
 use std::marker::Model;
@@ -96,7 +96,13 @@ impl Tableau {
         ensures answer { HasSolved self.old.columns (map (fold_row self.old.columns) rows.now) width result self.new.answer }
     {
         self.last = Last::Nothing;
-        let answer = run(&mut self.grid, rows, width, &mut self.heights, &mut self.multipliers);
+        let answer = run(
+            &mut self.grid,
+            rows,
+            width,
+            &mut self.heights,
+            &mut self.multipliers,
+        );
         self.last = match answer {
             Solved::Feasible => Last::Heights,
             Solved::Infeasible => Last::Multipliers,

@@ -32,26 +32,26 @@ loop-place-preserved c =
       scratch = c.match-place.auto.scratch ∙ here.scratch;
       kept = c.match-place.auto.cells ∙ here.kept;
       rows = elim c.match-place.branch [
-        in-Row+else-r-pivot w ↦
-          (let is = at_place places i (Row 0) (Row w.in-Row.r) (omega arith) w.in-Row.is in
-          subst P (sym w.cells-is)
-          (elim w.else-r-pivot.branch [
-            else-r-pivot-via-then-r-pivot+else-not-eliminate_at v ↦
-              (let e = v.eliminate_at.ensures in
-              let Q : ℕ → Type 0 = λ k. (q : ℕ) → q ≢ w.in-Row.r → row_at k v.eliminate_at.new.cells q ≡ row_at k now q in
-              let R : ℕ → Type 0 = λ k. IsEliminated pivot (row_at k now w.in-Row.r) (row_at k v.eliminate_at.new.cells w.in-Row.r) × AreNarrow width (row_at k v.eliminate_at.new.cells w.in-Row.r) in
-              let form = subst R here.scratch v.if-not-eliminate_at.ensures.answer in
-              subst P (sym v.cells-is)
-              (step width s places pivot old now v.eliminate_at.new.cells i w.in-Row.r here.rows c.requires.rows.apart is v.if-r-pivot.true (subst Q here.scratch e.others) form.0 form.1))
-            | else-r-pivot-via-else-r-pivot v ↦
-              subst P (sym v.cells-is)
-              (skip width s places pivot old now i here.rows
-              (λ r f n. n (let g : Row w.in-Row.r ≡ Row r = same_place places i _ _ is f in let h : w.in-Row.r ≡ r = cc in sym h ∙ v.if-r-pivot.false)))
-          ]))
+        | in-Row+else-r-pivot w ↦
+            (let is = at_place places i (Row 0) (Row w.in-Row.r) (omega arith) w.in-Row.is in
+            subst P (sym w.cells-is)
+            (elim w.else-r-pivot.branch [
+              | else-r-pivot-via-then-r-pivot+else-not-eliminate_at v ↦
+                  (let e = v.eliminate_at.ensures in
+                  let Q : ℕ → Type 0 = λ k. (q : ℕ) → q ≢ w.in-Row.r → row_at k v.eliminate_at.new.cells q ≡ row_at k now q in
+                  let R : ℕ → Type 0 = λ k. IsEliminated pivot (row_at k now w.in-Row.r) (row_at k v.eliminate_at.new.cells w.in-Row.r) × AreNarrow width (row_at k v.eliminate_at.new.cells w.in-Row.r) in
+                  let form = subst R here.scratch v.if-not-eliminate_at.ensures.answer in
+                  subst P (sym v.cells-is)
+                  (step width s places pivot old now v.eliminate_at.new.cells i w.in-Row.r here.rows c.requires.rows.apart is v.if-r-pivot.true (subst Q here.scratch e.others) form.0 form.1))
+              | else-r-pivot-via-else-r-pivot v ↦
+                  subst P (sym v.cells-is)
+                  (skip width s places pivot old now i here.rows
+                  (λ r f n. n (let g : Row w.in-Row.r ≡ Row r = same_place places i _ _ is f in let h : w.in-Row.r ≡ r = cc in sym h ∙ v.if-r-pivot.false)))
+            ]))
         | in_default w ↦
-          (let is = at_place places i (Row 0) (Column w.in_default.field-0) (omega arith) w.in_default.is in
-          subst P (sym w.cells-is)
-          (skip width s places pivot old now i here.rows (λ r f n. let g : Column w.in_default.field-0 ≡ Row r = same_place places i _ _ is f in cc)))
+            (let is = at_place places i (Row 0) (Column w.in_default.field-0) (omega arith) w.in_default.is in
+            subst P (sym w.cells-is)
+            (skip width s places pivot old now i here.rows (λ r f n. let g : Column w.in_default.field-0 ≡ Row r = same_place places i _ _ is f in cc)))
       ];
     }
 

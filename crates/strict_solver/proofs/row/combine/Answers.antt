@@ -18,8 +18,7 @@ loop-k-preserved c =
     let word : to_z w128 (of_z w128 c.mixed.result) ≡ c.mixed.result = unwrap128 c.mixed.result c.mixed.ensures.size in
     let value : to_z w128 (of_z w128 c.mixed.result) ≡ number row k *ℤ denominator +ℤ factor *ℤ number items k =
     word ∙ c.mixed.ensures.value ∙ (λ i. unwrap64 (number row k) (c.requires.row.each k) i *ℤ unwrap64 denominator c.requires.denominator i +ℤ factor *ℤ taken i) in
-    let small : unsigned_abs (to_z w128 (of_z w128 c.mixed.result)) < 2 ^ 126 = subst (λ z. unsigned_abs z < 2 ^ 126) (sym word) c.mixed.ensures.size in
-    (
+    let small : unsigned_abs (to_z w128 (of_z w128 c.mixed.result)) < 2 ^ 126 = subst (λ z. unsigned_abs z < 2 ^ 126) (sym word) c.mixed.ensures.size in (
       length-set out k _ ∙ c.loop-k.invariant.0,
       set_next out k (to_z w128 (of_z w128 c.mixed.result)) (λ j z. z ≡ number row j *ℤ denominator +ℤ factor *ℤ number items j) (omega arith) value c.loop-k.invariant.1,
       set_next out k (to_z w128 (of_z w128 c.mixed.result)) (λ j z. unsigned_abs z < 2 ^ 126) (omega arith) small c.loop-k.invariant.2,

@@ -25,8 +25,7 @@ returns-then-divisor-eq1 c = record {
 
 pub loop-number-preserved : goal.loop-number-preserved
 loop-number-preserved c =
-    let e : c.unsigned_abs.result ≡ unsigned_abs (number c.args.numbers.now c.loop-number.number-index) = omega (arith, ints) in
-    (
+    let e : c.unsigned_abs.result ≡ unsigned_abs (number c.args.numbers.now c.loop-number.number-index) = omega (arith, ints) in (
       divides_next c.args.numbers.now c.loop-number.number-index c.loop-number.divisor c.unsigned_abs.result c.gcd-divisor.result e c.gcd-divisor.ensures c.loop-number.invariant.0,
       greatest_next c.args.numbers.now c.loop-number.number-index c.loop-number.divisor c.unsigned_abs.result c.gcd-divisor.result e c.gcd-divisor.ensures c.loop-number.invariant.1,
     )

@@ -31,8 +31,7 @@ loop-number-preserved c =
     let small : unsigned_abs (quot_z (number old i) divisor) < 2 ^ 126 = quotient_small divisor _ (number old i) c.requires.positive whole (c.requires.sizes i) in
     let new = to_z w128 (of_z w128 (quot_z (to_z w128 (of_z w128 (number numbers i))) (to_z w128 (of_z w128 divisor)))) in
     let is : to_z w128 (of_z w128 (quot_z (to_z w128 (of_z w128 (number numbers i))) (to_z w128 (of_z w128 divisor)))) ≡ quot_z (number old i) divisor =
-    (λ t. to_z w128 (of_z w128 (quot_z (taken t) (word t)))) ∙ unwrap128 (quot_z (number old i) divisor) small in
-    (
+    (λ t. to_z w128 (of_z w128 (quot_z (taken t) (word t)))) ∙ unwrap128 (quot_z (number old i) divisor) small in (
       length-set numbers i _ ∙ c.loop-number.invariant.0,
       set_next numbers i new (λ j z. to_z w128 (of_z w128 divisor) *ℤ z ≡ number old j) (omega arith) ((λ t. word t *ℤ is t) ∙ whole) c.loop-number.invariant.1,
       set_rest numbers i new (λ j z. z ≡ number old j) c.loop-number.invariant.2,

@@ -63,13 +63,13 @@ returns-clause-answer c =
     let P : List ℤ → Type 0 = λ r. IsCombination old p piv den r in
     let form : IsCombination old p piv den c.if-divisor-ne1.scratch =
     elim c.if-divisor-ne1.branch [
-      then-divisor-ne1 w ↦
-        subst P (sym w.scratch-is)
-        (combined old p piv den c.combine.new.out w.divide.new.numbers g (sums s) c.common_divisor-divisor.ensures (positive s) (w.divide.ensures.count ∙ c.combine.ensures.count ∙ length-set old p (pos 0))
-        (λ j. ap (λ z. z *ℤ number w.divide.new.numbers j) (sym (word s)) ∙ w.divide.ensures.each j))
+      | then-divisor-ne1 w ↦
+          subst P (sym w.scratch-is)
+          (combined old p piv den c.combine.new.out w.divide.new.numbers g (sums s) c.common_divisor-divisor.ensures (positive s) (w.divide.ensures.count ∙ c.combine.ensures.count ∙ length-set old p (pos 0))
+          (λ j. ap (λ z. z *ℤ number w.divide.new.numbers j) (sym (word s)) ∙ w.divide.ensures.each j))
       | else-divisor-ne1 w ↦
-        subst P (sym w.scratch-is)
-        (combined old p piv den c.combine.new.out c.combine.new.out g (sums s) c.common_divisor-divisor.ensures (positive s) (c.combine.ensures.count ∙ length-set old p (pos 0))
-        (λ j. ap (λ n. pos n *ℤ number c.combine.new.out j) w.if-divisor-ne1.false ∙ one_product (number c.combine.new.out j)))
+          subst P (sym w.scratch-is)
+          (combined old p piv den c.combine.new.out c.combine.new.out g (sums s) c.common_divisor-divisor.ensures (positive s) (c.combine.ensures.count ∙ length-set old p (pos 0))
+          (λ j. ap (λ n. pos n *ℤ number c.combine.new.out j) w.if-divisor-ne1.false ∙ one_product (number c.combine.new.out j)))
     ] in
     answer c.store.result old c.store.new.row c.if-divisor-ne1.scratch c.args.width p piv den form c.store.ensures

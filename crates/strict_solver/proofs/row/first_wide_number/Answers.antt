@@ -12,9 +12,9 @@ pub loop-place-preserved : goal.loop-place-preserved
 loop-place-preserved c =
     let i = c.loop-place.place-index in
     elim c.match-place.branch [
-      in-Column+else-is_wide-3 w ↦
-        c.loop-place.invariant
-        ∙ narrow_column c.args.width c.args.numbers.now c.args.places.now i (omega arith) w.in-Column.p w.in-Column.is (sym w.is_wide-in-Column.ensures ∙ w.if-is_wide-3.false)
+      | in-Column+else-is_wide-3 w ↦
+          c.loop-place.invariant
+          ∙ narrow_column c.args.width c.args.numbers.now c.args.places.now i (omega arith) w.in-Column.p w.in-Column.is (sym w.is_wide-in-Column.ensures ∙ w.if-is_wide-3.false)
       | in_default w ↦ c.loop-place.invariant ∙ skipped_row c.args.width c.args.numbers.now c.args.places.now i (omega arith) w.in_default.field-0 w.in_default.is
     ]
 

@@ -15,8 +15,7 @@ loop-number-preserved c =
     let i = c.loop-number.number-index in
     let row = c.loop-number.row in
     let old = c.args.row.now in
-    let word = to_z w64 (of_z w64 (pos 0 -ℤ to_z w64 (of_z w64 (number row i)))) in
-    (
+    let word = to_z w64 (of_z w64 (pos 0 -ℤ to_z w64 (of_z w64 (number row i)))) in (
       length-set row i _ ∙ c.loop-number.invariant.0,
       set_next row i word (λ j z. z ≡ neg_ℤ (number old j)) (omega arith) (negated _ _ (c.loop-number.invariant.2 i (omega arith)) (c.requires.each i)) c.loop-number.invariant.1,
       set_rest row i word (λ j z. z ≡ number old j) c.loop-number.invariant.2,

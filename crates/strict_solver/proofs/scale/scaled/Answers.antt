@@ -1,2 +1,1 @@
 use Rattle.strict_solver.proofs.scale.scaled.Goals as goal
-

@@ -95,12 +95,12 @@ returns-clause-size c =
     record {
       columns = e.columns;
       cells = ap (λ (k : List ℤ). length k) (lent_back c.take_pivot_row.new.self.cells.len c.eliminate_rows.new.cells c.take_pivot_row.new.self.cells.items (c.eliminate_rows.ensures.kept ∙ c.deref_mut.ensures.len))
-        ∙ c.eliminate_rows.ensures.kept ∙ ap (λ (k : List ℤ). length k) c.deref_mut.ensures.value ∙ e.cells;
+          ∙ c.eliminate_rows.ensures.kept ∙ ap (λ (k : List ℤ). length k) c.deref_mut.ensures.value ∙ e.cells;
       places = ap (λ (k : List Place). length k) (places_same a) ∙ length-set (set c.args.self.now.places.items c.args.leaving (Column c.args.p)) c.args.entering (Row c.args.r) ∙ length-set c.args.self.now.places.items c.args.leaving (Column c.args.p);
       capacity = ap (λ v. v.cap) e.places;
       pivot = numbers_count a ∙ sym c.requires.grid.pivot;
       scratch = ap (λ (k : List ℤ). length k) (lent_back c.take_pivot_row.new.self.scratch.len c.eliminate_rows.new.scratch c.take_pivot_row.new.self.scratch.items (c.eliminate_rows.ensures.scratch ∙ c.deref_mut-2.ensures.len))
-        ∙ c.eliminate_rows.ensures.scratch ∙ ap (λ (k : List ℤ). length k) c.deref_mut-2.ensures.value ∙ ap (λ v. length v.items) e.scratch;
+          ∙ c.eliminate_rows.ensures.scratch ∙ ap (λ (k : List ℤ). length k) c.deref_mut-2.ensures.value ∙ ap (λ v. length v.items) e.scratch;
     }
 
 answer : (o : Option ℤ) (A B : Type 0) (C D : ℤ → Type 0) → (A → B) → ((z : ℤ) → C z → D z) → MatchOption o A C → MatchOption o B D

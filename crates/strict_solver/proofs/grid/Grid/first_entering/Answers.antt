@@ -44,12 +44,12 @@ loop-y-preserved c =
     let leaving = at_place places c.args.leaving c.index.result.now (Row c.in-Row.r) c.requires.within (sym c.index.ensures ∙ c.in-Row.is) in
     below_next (λ j. entering_test g.columns (lines_of g) (line_in places row) j ≡ false) y c.loop-y.invariant
     (elim c.match-index-2.branch [
-      in-Column+else-cell-gt0 w ↦
-        (let is = at_place places y c.index-in-loop-y.result.now (Column w.in-Column.p) (omega arith) (sym c.index-in-loop-y.ensures ∙ w.in-Column.is) in
-        let word : to_z w64 (of_z w64 w.cell.result.now) ≡ number row w.in-Column.p = ap (λ n. to_z w64 (of_z w64 n)) w.cell.ensures ∙ unwrap64 (number row w.in-Column.p) ((c.requires.grid.low c.args.leaving c.in-Row.r leaving).narrow.each w.in-Column.p) in
-        entering_column g.columns s places cells row y w.in-Column.p (omega arith) is ∙ ap (int_lt (pos 0)) (sym word) ∙ w.if-cell-gt0.false)
+      | in-Column+else-cell-gt0 w ↦
+          (let is = at_place places y c.index-in-loop-y.result.now (Column w.in-Column.p) (omega arith) (sym c.index-in-loop-y.ensures ∙ w.in-Column.is) in
+          let word : to_z w64 (of_z w64 w.cell.result.now) ≡ number row w.in-Column.p = ap (λ n. to_z w64 (of_z w64 n)) w.cell.ensures ∙ unwrap64 (number row w.in-Column.p) ((c.requires.grid.low c.args.leaving c.in-Row.r leaving).narrow.each w.in-Column.p) in
+          entering_column g.columns s places cells row y w.in-Column.p (omega arith) is ∙ ap (int_lt (pos 0)) (sym word) ∙ w.if-cell-gt0.false)
       | in_default-index w ↦
-        entering_basic g.columns s places cells row y w.in_default-index.field-0 (at_place places y c.index-in-loop-y.result.now (Row w.in_default-index.field-0) (omega arith) (sym c.index-in-loop-y.ensures ∙ w.in_default-index.is))
+          entering_basic g.columns s places cells row y w.in_default-index.field-0 (at_place places y c.index-in-loop-y.result.now (Row w.in_default-index.field-0) (omega arith) (sym c.index-in-loop-y.ensures ∙ w.in_default-index.is))
     ])
 
 pub returns-then-cell-gt0 : goal.returns-then-cell-gt0

@@ -33,13 +33,13 @@ loop-x-preserved c =
     let k = g.places.ok.0 in
     below_next (λ j. slack_test g.columns test (lines_of g) j ≡ false) x c.loop-x.invariant
     (elim c.match-index.branch [
-      in-Row+else-cell-lt0 w ↦
-        (let is = at_place places x c.index.result.now (Row w.in-Row.r) (omega arith) (sym c.index.ensures ∙ w.in-Row.is) in
-        let z = w.cell.ensures in
-        let word : to_z w64 (of_z w64 w.cell.result.now) ≡ number (row_at s cells w.in-Row.r) 1 = ap (λ n. to_z w64 (of_z w64 n)) z ∙ unwrap64 (number (row_at s cells w.in-Row.r) 1) ((c.requires.low x w.in-Row.r is).narrow.each 1) in
-        slack_line g.columns test s places cells x w.in-Row.r (omega arith) is ∙ ap (λ n. int_lt n (pos 0)) (sym word) ∙ w.if-cell-lt0.false)
+      | in-Row+else-cell-lt0 w ↦
+          (let is = at_place places x c.index.result.now (Row w.in-Row.r) (omega arith) (sym c.index.ensures ∙ w.in-Row.is) in
+          let z = w.cell.ensures in
+          let word : to_z w64 (of_z w64 w.cell.result.now) ≡ number (row_at s cells w.in-Row.r) 1 = ap (λ n. to_z w64 (of_z w64 n)) z ∙ unwrap64 (number (row_at s cells w.in-Row.r) 1) ((c.requires.low x w.in-Row.r is).narrow.each 1) in
+          slack_line g.columns test s places cells x w.in-Row.r (omega arith) is ∙ ap (λ n. int_lt n (pos 0)) (sym word) ∙ w.if-cell-lt0.false)
       | in_default w ↦
-        slack_other g.columns test s places cells x w.in_default.field-0 (at_place places x c.index.result.now (Column w.in_default.field-0) (omega arith) (sym c.index.ensures ∙ w.in_default.is))
+          slack_other g.columns test s places cells x w.in_default.field-0 (at_place places x c.index.result.now (Column w.in_default.field-0) (omega arith) (sym c.index.ensures ∙ w.in_default.is))
     ])
 
 pub returns-then-cell-lt0 : goal.returns-then-cell-lt0

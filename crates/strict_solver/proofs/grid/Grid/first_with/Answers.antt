@@ -53,14 +53,14 @@ loop-x-preserved c =
     let column = at_place places height c.index.result.now (Column c.in-Column.p) (omega arith) (sym c.index.ensures ∙ c.in-Column.is) in
     below_next (λ j. slack_test g.columns (test height) (lines_of g) j ≡ false) x c.loop-x.invariant
     (elim c.match-index-2.branch [
-      in-Row+else-cell-ne0 w ↦
-        (let is = at_place places x c.index-in-loop-x.result.now (Row w.in-Row.r) (omega arith) (sym c.index-in-loop-x.ensures ∙ w.in-Row.is) in
-        let row = row_at s cells w.in-Row.r in
-        let z = ap (of_z w64) (sym w.cell.ensures) ∙ w.if-cell-ne0.false in
-        slack_line g.columns (test height) s places cells x w.in-Row.r (omega arith) is
-        ∙ zero_fails (coefficient_at (line_in places row) height) (coefficient_there places row height (Column c.in-Column.p) column ∙ zero_word (number row c.in-Column.p) ((c.requires.grid.low x w.in-Row.r is).narrow.each c.in-Column.p) z))
+      | in-Row+else-cell-ne0 w ↦
+          (let is = at_place places x c.index-in-loop-x.result.now (Row w.in-Row.r) (omega arith) (sym c.index-in-loop-x.ensures ∙ w.in-Row.is) in
+          let row = row_at s cells w.in-Row.r in
+          let z = ap (of_z w64) (sym w.cell.ensures) ∙ w.if-cell-ne0.false in
+          slack_line g.columns (test height) s places cells x w.in-Row.r (omega arith) is
+          ∙ zero_fails (coefficient_at (line_in places row) height) (coefficient_there places row height (Column c.in-Column.p) column ∙ zero_word (number row c.in-Column.p) ((c.requires.grid.low x w.in-Row.r is).narrow.each c.in-Column.p) z))
       | in_default-index w ↦
-        slack_other g.columns (test height) s places cells x w.in_default-index.field-0 (at_place places x c.index-in-loop-x.result.now (Column w.in_default-index.field-0) (omega arith) (sym c.index-in-loop-x.ensures ∙ w.in_default-index.is))
+          slack_other g.columns (test height) s places cells x w.in_default-index.field-0 (at_place places x c.index-in-loop-x.result.now (Column w.in_default-index.field-0) (omega arith) (sym c.index-in-loop-x.ensures ∙ w.in_default-index.is))
     ])
 
 pub returns-then-cell-ne0 : goal.returns-then-cell-ne0

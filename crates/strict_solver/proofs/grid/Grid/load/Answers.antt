@@ -49,23 +49,23 @@ loop-height-preserved c =
     let height = c.loop-height.height in
     let P : Grid → Type 0 = λ k. IsLoadingGrid width old k c.match-first_with.step (height + 1) in
     elim c.match-first_with.branch [
-      in-Some+in_default-pivot w ↦
-        (let a = w.in_default-pivot.ensures in
-        let Q : ℕ → Type 0 = λ k. IsLoadingGrid width old w.pivot.new.self k (height + 1) in
-        subst P (sym w.self-is) (subst Q (sym w.step-is) (record {
-          size = same_size_next old g w.pivot.new.self i.size a.size;
-          grid = a.answer.0;
-          run = λ rs h.
-            load_more n width rs c.loop-height.step height (lines_of g) (i.run rs h) (omega arith) w.in-Some.slack (found g.columns n height (lines_of g) (Some w.in-Some.slack) i.size.columns w.in-Some.ensures)
-            (lines_of w.pivot.new.self) w.saturating_add-step.result a.answer.1 (grid_narrow width w.pivot.new.self a.answer.0) w.saturating_add-step.ensures;
-        })))
+      | in-Some+in_default-pivot w ↦
+          (let a = w.in_default-pivot.ensures in
+          let Q : ℕ → Type 0 = λ k. IsLoadingGrid width old w.pivot.new.self k (height + 1) in
+          subst P (sym w.self-is) (subst Q (sym w.step-is) (record {
+            size = same_size_next old g w.pivot.new.self i.size a.size;
+            grid = a.answer.0;
+            run = λ rs h.
+                load_more n width rs c.loop-height.step height (lines_of g) (i.run rs h) (omega arith) w.in-Some.slack (found g.columns n height (lines_of g) (Some w.in-Some.slack) i.size.columns w.in-Some.ensures)
+                (lines_of w.pivot.new.self) w.saturating_add-step.result a.answer.1 (grid_narrow width w.pivot.new.self a.answer.0) w.saturating_add-step.ensures;
+          })))
       | in_default w ↦
-        (let Q : ℕ → Type 0 = λ k. IsLoadingGrid width old g k (height + 1) in
-        subst P (sym w.self-is) (subst Q (sym w.step-is) (record {
-          size = i.size;
-          grid = i.grid;
-          run = λ rs h. load_skip n width rs c.loop-height.step height (lines_of g) (i.run rs h) (omega arith) (found g.columns n height (lines_of g) None i.size.columns w.in_default.ensures);
-        })))
+          (let Q : ℕ → Type 0 = λ k. IsLoadingGrid width old g k (height + 1) in
+          subst P (sym w.self-is) (subst Q (sym w.step-is) (record {
+            size = i.size;
+            grid = i.grid;
+            run = λ rs h. load_skip n width rs c.loop-height.step height (lines_of g) (i.run rs h) (omega arith) (found g.columns n height (lines_of g) None i.size.columns w.in_default.ensures);
+          })))
     ]
 
 pub loop-height-init : goal.loop-height-init

@@ -79,7 +79,7 @@ loop-leaving-preserved c =
       grid = a.answer.0;
       loaded = still_loaded n c.args.width g h c.in-Some.leaving c.in-Some-first_entering.entering i.grid a.size i.size.columns i.loaded e f a.answer.1;
       run = λ rs k.
-        move_more n c.args.width rs c.loop-leaving.step (lines_of g) (i.run rs k) c.in-Some.leaving c.in-Some-first_entering.entering e f (lines_of h) c.saturating_add-step.result a.answer.1 (grid_narrow c.args.width h a.answer.0) c.saturating_add-step.ensures;
+          move_more n c.args.width rs c.loop-leaving.step (lines_of g) (i.run rs k) c.in-Some.leaving c.in-Some-first_entering.entering e f (lines_of h) c.saturating_add-step.result a.answer.1 (grid_narrow c.args.width h a.answer.0) c.saturating_add-step.ensures;
     }
 
 pub returns-clause-run : goal.returns-clause-run

@@ -105,8 +105,7 @@ returns-then-not-open_row-clause-answer c =
     (λ z w. opened_wide c.args.width old now fs c.loop-r.r c.requires.room i row (get_or c.args.folds.now c.loop-r.r no_fold) z here (subst V i.room.columns e.answer.0) w)
 
 pub returns-clause-answer : goal.returns-clause-answer
-returns-clause-answer c =
-    (
-      opened_grid c.args.width c.args.self.now c.loop-r.self c.args.folds.now c.loop-r.r c.requires.room c.loop-r.invariant (omega arith),
-      opened_stands c.args.width c.args.self.now c.loop-r.self c.args.folds.now c.loop-r.r c.requires.room c.loop-r.invariant (omega arith),
-    )
+returns-clause-answer c = (
+  opened_grid c.args.width c.args.self.now c.loop-r.self c.args.folds.now c.loop-r.r c.requires.room c.loop-r.invariant (omega arith),
+  opened_stands c.args.width c.args.self.now c.loop-r.self c.args.folds.now c.loop-r.r c.requires.room c.loop-r.invariant (omega arith),
+)

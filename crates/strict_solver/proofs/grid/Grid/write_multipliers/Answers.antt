@@ -17,23 +17,23 @@ loop-row-preserved c =
     let word = unwrap64 z c.multiplier-times.ensures.size in
     record {
       capacity = elim c.if-times-gt0.branch [
-        then-times-gt0 w ↦ ap vec_capacity w.multipliers-is ∙ w.push_reserved.ensures.capacity ∙ i.capacity
+        | then-times-gt0 w ↦ ap vec_capacity w.multipliers-is ∙ w.push_reserved.ensures.capacity ∙ i.capacity
         | else-times-gt0 w ↦ ap vec_capacity w.multipliers-is ∙ i.capacity
       ];
       few = elim c.if-times-gt0.branch [
-        then-times-gt0 w ↦
-          (let e : length c.if-times-gt0.multipliers.items ≡ length c.loop-row.multipliers.items + 1 = ap (λ v. length v.items) w.multipliers-is ∙ ap (λ (l : List (ℕ × ℤ)). length l) w.push_reserved.ensures.items ∙ length_push c.loop-row.multipliers.items _ in
-          let f = i.few in
-          omega arith)
+        | then-times-gt0 w ↦
+            (let e : length c.if-times-gt0.multipliers.items ≡ length c.loop-row.multipliers.items + 1 = ap (λ v. length v.items) w.multipliers-is ∙ ap (λ (l : List (ℕ × ℤ)). length l) w.push_reserved.ensures.items ∙ length_push c.loop-row.multipliers.items _ in
+            let f = i.few in
+            omega arith)
         | else-times-gt0 w ↦ (let e : length c.if-times-gt0.multipliers.items ≡ length c.loop-row.multipliers.items = ap (λ v. length v.items) w.multipliers-is in let f = i.few in omega arith)
       ];
       value = λ line e. elim c.if-times-gt0.branch [
-        then-times-gt0 w ↦
-          ap (λ v. v.items) w.multipliers-is ∙ w.push_reserved.ensures.items
-          ∙ (λ t. i.value line e t ++ (row, word t) ∷ [])
-          ∙ sym (more_kept g.columns row c.args.slack line z (c.multiplier-times.ensures.value line e) (ap (int_lt (pos 0)) (sym word) ∙ w.if-times-gt0.true))
+        | then-times-gt0 w ↦
+            ap (λ v. v.items) w.multipliers-is ∙ w.push_reserved.ensures.items
+            ∙ (λ t. i.value line e t ++ (row, word t) ∷ [])
+            ∙ sym (more_kept g.columns row c.args.slack line z (c.multiplier-times.ensures.value line e) (ap (int_lt (pos 0)) (sym word) ∙ w.if-times-gt0.true))
         | else-times-gt0 w ↦
-          ap (λ v. v.items) w.multipliers-is ∙ i.value line e
-          ∙ sym (more_left g.columns row c.args.slack line z (c.multiplier-times.ensures.value line e) (ap (int_lt (pos 0)) (sym word) ∙ w.if-times-gt0.false))
+            ap (λ v. v.items) w.multipliers-is ∙ i.value line e
+            ∙ sym (more_left g.columns row c.args.slack line z (c.multiplier-times.ensures.value line e) (ap (int_lt (pos 0)) (sym word) ∙ w.if-times-gt0.false))
       ];
     }
