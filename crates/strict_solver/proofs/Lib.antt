@@ -32,3 +32,4 @@ pub mod Denominators
 pub mod Scaling
 pub mod Multipliers
 pub mod Outcome
+pub mod Meaning

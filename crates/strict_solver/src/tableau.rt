@@ -43,7 +43,7 @@ impl Tableau {
     ghost use Rattle.ntfe_model.specs.Solver.{fold_row};
     ghost use Rattle.strict_solver.specs.Answers.Answer.{unsolved, feasible, infeasible};
     ghost use Rattle.strict_solver.specs.Starts.{AreFoldsOver};
-    ghost use Rattle.strict_solver.specs.Solving.{HasSolved};
+    ghost use Rattle.strict_solver.specs.Solving.{HasSolved, HasMeaning};
 
     /// Takes all memory for problems of at most so many rows over so many columns.
     ///
@@ -94,6 +94,7 @@ impl Tableau {
         ensures rows { self.new.rows ≡ self.old.rows }
         ensures columns { self.new.columns ≡ self.old.columns }
         ensures answer { HasSolved self.old.columns (map (fold_row self.old.columns) rows.now) width result self.new.answer }
+        ensures meaning { HasMeaning self.old.columns rows.now result self.new.answer }
     {
         self.last = Last::Nothing;
         let answer = run(
