@@ -33,3 +33,4 @@ pub mod Scaling
 pub mod Multipliers
 pub mod Outcome
 pub mod Meaning
+pub mod Uses

@@ -8,6 +8,8 @@ mod run;
 mod scale;
 mod start;
 mod tableau;
+#[cfg(test)]
+mod tests;
 
 pub use run::Solved;
 pub use tableau::Tableau;
