@@ -1,8 +1,8 @@
 -- Reduced denominators and least common multiples.
-use Rattle.std.proofs.Common.{◌≡◌, ◌≢◌, ℕ, zero, suc, ◌+◌, ◌*◌, ◌/◌, ◌^◌, ◌<◌, ◌≤◌, ◌⊎◌, inl, inr, refl, sym, ap, ◌∙◌, subst, arith, mul-le-mul}
+use Rattle.std.proofs.Common.{◌≡◌, ℕ, zero, suc, ◌+◌, ◌*◌, ◌/◌, ◌<◌, refl, sym, ap, ◌∙◌, subst, arith}
 use Rattle.std.specs.Int.{◌∣◌, IsGcd}
-use Rattle.std.proofs.lemmas.Nat.Gcd.{dvd_refl, dvd-zero, dvd_trans, dvd_antisymm, le_of_dvd, same_from_IsGcd}
-use Rattle.std.proofs.Math.Nat.{dvd-mul_right, dvd-mul_left, mul-div_cancel', pos_of_dvd_of_pos, dvd_of_mul-dvd-mul_left, eq-one_of_dvd-one, mul-dvd-mul_left, mul-dvd-mul_right, dvd-mul_left_of_dvd, div-le_self}
+use Rattle.std.proofs.lemmas.Nat.Gcd.{dvd_refl, dvd-zero, dvd_trans, same_from_IsGcd}
+use Rattle.std.proofs.Math.Nat.{dvd-mul_right, dvd-mul_left, mul-div_cancel', pos_of_dvd_of_pos, dvd_of_mul-dvd-mul_left, eq-one_of_dvd-one, mul-dvd-mul_left, mul-dvd-mul_right}
 use Rattle.strict_solver.specs.Scales.{gcd_of, reduced_denominator, common_multiple}
 use Rattle.strict_solver.proofs.Reduced.{gcd_by-is}
 use Rattle.strict_solver.proofs.One.{Lowest, lowest}

@@ -1,18 +1,18 @@
 -- A grid after a pivot, from what its steps leave.
-use Rattle.std.proofs.Common.{◌≡◌, ◌≢◌, ℕ, zero, suc, ◌+◌, ◌*◌, ◌^◌, ◌<◌, ◌≤◌, ◌⊎◌, inl, inr, refl, sym, ap, ◌∙◌, subst, arith, ℤ, pos, ◌<ℤ◌, List, [], ◌∷◌, length, get_or, set, length-set, get_or-set_same, get_or-set_other, unsigned_abs, Option, Some, None}
-use Rattle.std.specs.Prelude.{slice_get, flat_map}
-use Rattle.ntfe_model.specs.Solver.{Line, line_numbers, line_or_nothing, IsPivot, first_wide}
+use Rattle.std.proofs.Common.{◌≡◌, ◌≢◌, ℕ, zero, suc, ◌+◌, ◌*◌, ◌^◌, ◌<◌, ◌≤◌, ◌⊎◌, inl, inr, sym, ap, ◌∙◌, subst, arith, ℤ, pos, ◌<ℤ◌, List, [], ◌∷◌, length, set, length-set, get_or-set_same, get_or-set_other, unsigned_abs, Option, Some}
+use Rattle.std.specs.Prelude.{slice_get}
+use Rattle.ntfe_model.specs.Solver.{Line, IsPivot}
 use Rattle.strict_solver.specs.declared.place.Place.{Place}
 use Rattle.strict_solver.specs.declared.place.Place.TheVariants.{Row, Column}
 use Rattle.strict_solver.specs.declared.row.PivotRow.{PivotRow}
 use Rattle.strict_solver.specs.declared.grid.Grid.{Grid}
-use Rattle.strict_solver.specs.Rows.{number, line_in, AreNarrow, IsLowRow, IsSolvedRow, IsCombination, PlacesWithin}
-use Rattle.strict_solver.specs.Grids.{row_at, lines_by, lines_of, IsPivotRow, AreRowsFor, IsEliminated, AreEliminated, IsFirstWideRow, IsPlacing, IsGrid, IsWidePivot}
+use Rattle.strict_solver.specs.Rows.{number, AreNarrow, IsLowRow, IsSolvedRow, IsCombination}
+use Rattle.strict_solver.specs.Grids.{row_at, lines_by, lines_of, IsPivotRow, AreRowsFor, IsEliminated, IsFirstWideRow, IsPlacing, IsGrid, IsWidePivot}
 use Rattle.strict_solver.proofs.Rows.{wider_narrow, zero_narrow}
-use Rattle.strict_solver.proofs.Elimination.{from_place, same_place}
+use Rattle.strict_solver.proofs.Elimination.{same_place}
 use Rattle.strict_solver.proofs.Parts.{row_length}
 use Rattle.strict_solver.proofs.Placing.{came, at_others, placing_after}
-use Rattle.strict_solver.proofs.Tables.{new_low, other_low, grid_pivot, pivotable, stepped, step_wide}
+use Rattle.strict_solver.proofs.Tables.{new_low, other_low, grid_pivot, stepped, step_wide}
 use Rattle.strict_solver.proofs.Steps.{step_lines}
 
 -- the row without its d

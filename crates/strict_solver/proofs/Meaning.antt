@@ -1,16 +1,16 @@
 -- What the answers mean for the folds.
-use Rattle.std.proofs.Common.{◌≡◌, ◌≢◌, ℕ, zero, suc, ◌+◌, ◌-◌, ◌<◌, ◌≤◌, ◌==◌, ◌⊎◌, inl, inr, Bool, true, false, cond, refl, sym, ap, ◌∙◌, subst, arith, ℤ, pos, ◌+ℤ◌, ◌-ℤ◌, ◌*ℤ◌, ◌<ℤ◌, ◌≤ℤ◌, int_lt, List, [], ◌∷◌, map, filter, length, get_or, Some, None, Option}
-use Rattle.std.specs.Prelude.{All, AllPairs, slice_get}
+use Rattle.std.proofs.Common.{◌≡◌, ℕ, zero, suc, ◌+◌, ◌-◌, ◌<◌, ◌≤◌, ◌==◌, ◌⊎◌, inl, inr, Bool, true, false, cond, refl, sym, ap, ◌∙◌, subst, arith, ℤ, pos, ◌+ℤ◌, ◌-ℤ◌, ◌*ℤ◌, ◌≤ℤ◌, int_lt, List, [], ◌∷◌, map, filter, length, get_or, Some}
+use Rattle.std.specs.Prelude.{All, AllPairs}
 use Rattle.std.specs.List.{range_with_len}
 use Rattle.std.proofs.lemmas.Int.{ints}
 use Rattle.std.proofs.lemmas.Bool.Decides.{nat_tests}
 use Rattle.std.proofs.lemmas.List.{length-map, get_or-map}
-use Rattle.ntfe_nums.proofs.Ring.{ring, product_zero, zero_product}
+use Rattle.ntfe_nums.proofs.Ring.{ring, zero_product}
 use Rattle.ntfe_nums.proofs.Ring.Expression.{var, num, plus, minus, times}
-use Rattle.ntfe_model.specs.Certificates.{where_equal, fold_coefficient}
+use Rattle.ntfe_model.specs.Certificates.{where_equal}
 use Rattle.ntfe_model.specs.Choices.{fold_value, height}
 use Rattle.ntfe_model.specs.declared.nogood.Fold.{Fold}
-use Rattle.ntfe_model.specs.Solver.{Line, fold_row, multipliers_of, multiplier_at, IsFeasible, IsInfeasible}
+use Rattle.ntfe_model.specs.Solver.{fold_row, multiplier_at, IsFeasible, IsInfeasible}
 use Rattle.strict_solver.specs.declared.run.Solved.{Solved}
 use Rattle.strict_solver.specs.declared.run.Solved.TheVariants.{Feasible, Infeasible, Wide}
 use Rattle.strict_solver.specs.Answers.{Answer}
@@ -121,15 +121,17 @@ same_sum (e ∷ ms) f = ap (λ z. e.1 *ℤ f e.0 +ℤ z) (same_sum ms f)
 -- ---- what the answers mean
 above : (columns : ℕ) (fs : List Fold) (width : ℕ) (hs : List ℤ) → AreFoldsOver columns fs → IsFeasible columns (map (fold_row columns) fs) (Some width) hs → (length hs ≡ columns) × All (λ f. pos 1 ≤ℤ fold_value hs f) fs
 above columns fs width hs w h =
-    let c = h.scaling.counts.1 in
-    (c, λ j d l.
-    (let f = get_or fs j d in
-    let over = w.each j f (at_place fs j d f l refl) in
-    let n = length-map fs (fold_row columns) in
-    let r = feasible-rows columns (map (fold_row columns) fs) (Some width) hs (are_rows columns fs) h j (omega arith) in
-    let P : List ℤ → Type 0 = λ row. pos 1 ≤ℤ combination row hs in
-    let Q : ℤ → Type 0 = λ z. pos 1 ≤ℤ z in
-    subst Q (row_value columns f hs c over) (subst P (get_or-map (fold_row columns) fs j d [] l) r)))
+    let c = h.scaling.counts.1 in (
+      c,
+      λ j d l.
+          (let f = get_or fs j d in
+          let over = w.each j f (at_place fs j d f l refl) in
+          let n = length-map fs (fold_row columns) in
+          let r = feasible-rows columns (map (fold_row columns) fs) (Some width) hs (are_rows columns fs) h j (omega arith) in
+          let P : List ℤ → Type 0 = λ row. pos 1 ≤ℤ combination row hs in
+          let Q : ℤ → Type 0 = λ z. pos 1 ≤ℤ z in
+          subst Q (row_value columns f hs c over) (subst P (get_or-map (fold_row columns) fs j d [] l) r)),
+    )
 
 cancelling : (columns : ℕ) (fs : List Fold) (width : ℕ) (ms : List (ℕ × ℤ)) → IsInfeasible columns (map (fold_row columns) fs) (Some width) ms → AreMultipliers columns (map (fold_row columns) fs) ms
 cancelling columns fs width ms h =

@@ -1,6 +1,6 @@
 -- The grid of the start stands for the start's table.
-use Rattle.std.proofs.Common.{◌≡◌, ◌≢◌, ℕ, zero, suc, ◌+◌, ◌-◌, ◌*◌, ◌^◌, ◌<◌, ◌≤◌, ◌⊎◌, inl, inr, refl, sym, ap, ◌∙◌, subst, arith, ℤ, pos, negsuc, ◌<ℤ◌, List, [], ◌∷◌, ◌++◌, map, length, get_or, replicate, mul-le-mul, unsigned_abs, Option, Some, None}
-use Rattle.std.specs.Prelude.{slice_get, flat_map}
+use Rattle.std.proofs.Common.{◌≡◌, ℕ, zero, suc, ◌+◌, ◌-◌, ◌*◌, ◌<◌, ◌≤◌, ◌⊎◌, inl, inr, refl, sym, ap, ◌∙◌, subst, arith, ℤ, pos, ◌<ℤ◌, List, [], ◌++◌, map, length, get_or, replicate, mul-le-mul, unsigned_abs, Option, Some, None}
+use Rattle.std.specs.Prelude.{slice_get}
 use Rattle.std.specs.Int.{◌∣◌}
 use Rattle.std.specs.List.{range_with_len}
 use Rattle.std.proofs.lemmas.Int.{ints}
@@ -8,15 +8,15 @@ use Rattle.std.proofs.lemmas.List.{length-map, length-append, length-replicate, 
 use Rattle.std.proofs.Math.Nat.{eq-one_of_dvd-one}
 use Rattle.ntfe_model.specs.Certificates.{fold_coefficient}
 use Rattle.ntfe_model.specs.declared.nogood.Fold.{Fold}
-use Rattle.ntfe_model.specs.Solver.{Line, Table, fold_row, start_line, start_table, line_numbers, line_or_nothing, first_wide, Reaches, IsWideTable}
+use Rattle.ntfe_model.specs.Solver.{Line, fold_row, start_line, start_table, line_numbers, line_or_nothing, first_wide, IsWideTable}
 use Rattle.strict_solver.specs.declared.place.Place.{Place}
 use Rattle.strict_solver.specs.declared.place.Place.TheVariants.{Row, Column}
 use Rattle.strict_solver.specs.declared.grid.Grid.{Grid}
-use Rattle.strict_solver.specs.Rows.{number, number_at, line_in, AreNarrow, IsLowRow}
-use Rattle.strict_solver.specs.Grids.{row_at, line_at, lines_by, lines_of, IsGrid, HasSameRoom}
+use Rattle.strict_solver.specs.Rows.{number_at, line_in, AreNarrow, IsLowRow}
+use Rattle.strict_solver.specs.Grids.{row_at, lines_by, lines_of, IsGrid, HasSameRoom}
 use Rattle.strict_solver.specs.Runs.{Stands}
 use Rattle.strict_solver.specs.Starts.{IsStartPlacing, IsStartRow, HasRoomFor}
-use Rattle.strict_solver.proofs.Elimination.{from_place, at_place, same_place}
+use Rattle.strict_solver.proofs.Elimination.{from_place}
 use Rattle.strict_solver.proofs.Placing.{lines-length, line_there, coefficient_there}
 use Rattle.strict_solver.proofs.Pivoting.{some_place}
 use Rattle.strict_solver.proofs.PlacingAll.{start_placing, which}

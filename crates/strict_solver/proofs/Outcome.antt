@@ -1,13 +1,12 @@
 -- The answer at the end of a run.
-use Rattle.std.proofs.Common.{◌≡◌, ℕ, zero, suc, ◌+◌, ◌-◌, ◌^◌, ◌<◌, ◌≤◌, min, refl, sym, ap, ◌∙◌, subst, arith, ℤ, pos, List, [], ◌∷◌, ◌++◌, map, length, get_or, unsigned_abs, Option, Some, None}
-use Rattle.std.specs.Prelude.{slice_get, flat_map, MatchOption}
+use Rattle.std.proofs.Common.{◌≡◌, ℕ, zero, suc, ◌+◌, ◌-◌, ◌^◌, ◌<◌, ◌≤◌, min, refl, sym, ap, ◌∙◌, subst, arith, ℤ, pos, List, [], ◌∷◌, map, length, get_or, unsigned_abs, Option, Some, None}
+use Rattle.std.specs.Prelude.{MatchOption}
 use Rattle.std.specs.List.{range_with_len}
 use Rattle.std.proofs.lemmas.List.{length-map, get_or-map}
 use Rattle.ntfe_model.specs.Certificates.{fold_coefficient}
 use Rattle.ntfe_model.specs.declared.nogood.Fold.{Fold}
-use Rattle.ntfe_model.specs.Solver.{Line, Table, fold_row, start_table, line_or_nothing, first_wide, first_negative, first_entering, moving, move_of, multipliers_of, scaling_numbers, IsFeasible, IsInfeasible, IsWide, IsWideScaling}
-use Rattle.ntfe_model.specs.Solver.Move.{pivot, feasible, infeasible}
-use Rattle.strict_solver.specs.Runs.{Stands, IsLoadedAt, IsSettled, HasLoaded}
+use Rattle.ntfe_model.specs.Solver.{Line, Table, fold_row, start_table, first_wide, multipliers_of, scaling_numbers, IsFeasible, IsInfeasible, IsWideScaling}
+use Rattle.strict_solver.specs.Runs.{IsLoadedAt, IsSettled, HasLoaded}
 use Rattle.strict_solver.specs.Scales.{scale_to, scales_of, heights_by}
 use Rattle.strict_solver.proofs.Pivots.{IsTable, get_there}
 use Rattle.strict_solver.proofs.Moves.{first_slack-found, move_of-infeasible, moving-infeasible}

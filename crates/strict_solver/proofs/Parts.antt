@@ -1,6 +1,5 @@
 -- The rows of a block of numbers, and what a write to one row leaves.
 use Rattle.std.proofs.Common.{◌≡◌, ◌≢◌, ℕ, suc, ◌+◌, ◌-◌, ◌*◌, ◌<◌, ◌≤◌, ◌⊎◌, inl, inr, sym, ap, ◌∙◌, arith, ℤ, pos, List, ◌++◌, length, get_or, take, drop, mul-le-mul}
-use Rattle.std.specs.List.{between}
 use Rattle.std.proofs.lemmas.List.{take_at, get_or_read, length-append, length-take-le, length-drop}
 use Rattle.std.proofs.lemmas.List.Edits.{length-between, get_or-between}
 use Rattle.std.proofs.lemmas.Slice.{between_is, between-put_mid, take-put_mid_below, drop-put_mid}

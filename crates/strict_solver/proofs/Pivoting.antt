@@ -2,21 +2,21 @@
 --     solved_line      the solved row stands for the line that is solved for y
 --     put_line         a combination stands for the line with the new line put in
 --     pivot_lines      the table after the pivot
-use Rattle.std.proofs.Common.{◌≡◌, ◌≢◌, ℕ, zero, suc, ◌+◌, ◌*◌, ◌^◌, ◌<◌, ◌≤◌, ◌⊎◌, inl, inr, refl, sym, ap, ◌∙◌, subst, arith, ℤ, pos, negsuc, ◌+ℤ◌, ◌*ℤ◌, neg_ℤ, ◌<ℤ◌, List, [], ◌∷◌, map, length, get_or, set, length-set, get_or-set_same, get_or-set_other, unsigned_abs, Option, Some, None}
+use Rattle.std.proofs.Common.{◌≡◌, ◌≢◌, ℕ, zero, suc, ◌+◌, ◌^◌, ◌<◌, ◌≤◌, ◌⊎◌, inl, inr, refl, sym, ap, ◌∙◌, subst, arith, ℤ, pos, negsuc, ◌+ℤ◌, ◌*ℤ◌, neg_ℤ, ◌<ℤ◌, List, [], ◌∷◌, map, length, get_or, set, length-set, get_or-set_same, get_or-set_other, unsigned_abs, Some}
 use Rattle.std.specs.Prelude.{All, slice_get}
 use Rattle.std.specs.Int.{◌∣◌}
-use Rattle.std.proofs.lemmas.Int.{ints, unsigned_abs-mul}
+use Rattle.std.proofs.lemmas.Int.{ints}
 use Rattle.std.proofs.lemmas.List.{length-map, get_or-map, same_lists, get_or_default}
 use Rattle.std.proofs.lemmas.Nat.Gcd.{dvd-zero}
 use Rattle.ntfe_nums.specs.Vectors.{sign}
 use Rattle.ntfe_nums.proofs.Ring.{product_zero, zero_product, one_product}
-use Rattle.ntfe_model.specs.Solver.{Line, line_numbers, coefficient_at, solved_for, with_put_in, IsReduced}
+use Rattle.ntfe_model.specs.Solver.{line_numbers, coefficient_at, solved_for, with_put_in, IsReduced}
 use Rattle.strict_solver.specs.declared.place.Place.{Place}
 use Rattle.strict_solver.specs.declared.place.Place.TheVariants.{Row, Column}
-use Rattle.strict_solver.specs.Rows.{number, number_at, line_in, AreNarrow, IsLowRow, IsSolvedRow, IsCombination}
+use Rattle.strict_solver.specs.Rows.{number, number_at, line_in, IsLowRow, IsSolvedRow, IsCombination}
 use Rattle.strict_solver.specs.Grids.{IsPlacing}
 use Rattle.strict_solver.proofs.Rows.{number_past}
-use Rattle.strict_solver.proofs.Elimination.{from_place, same_place}
+use Rattle.strict_solver.proofs.Elimination.{from_place}
 use Rattle.strict_solver.proofs.Placing.{not_same, at_leaving, at_entering, at_others, somewhere, placing_after, coefficient_there}
 use Rattle.strict_solver.proofs.Pivots.{coefficient-put_in, length-zipped}
 use Rattle.strict_solver.proofs.Steps.{sign_positive}

@@ -1,14 +1,14 @@
 -- Where the variables stand after a pivot, and the lines of a grid.
-use Rattle.std.proofs.Common.{◌≡◌, ◌≢◌, ℕ, zero, suc, ◌+◌, ◌*◌, ◌<◌, ◌≤◌, ◌⊎◌, inl, inr, refl, sym, ap, ◌∙◌, subst, arith, ℤ, pos, ◌<ℤ◌, List, [], ◌∷◌, map, length, get_or, set, length-set, Option, Some, None}
+use Rattle.std.proofs.Common.{◌≡◌, ◌≢◌, ℕ, zero, suc, ◌≤◌, ◌⊎◌, inl, inr, refl, sym, ap, ◌∙◌, subst, arith, ℤ, pos, ◌<ℤ◌, List, [], ◌∷◌, map, length, set, length-set, Option, Some, None}
 use Rattle.std.specs.Prelude.{slice_get}
 use Rattle.std.proofs.lemmas.List.{length-map, get_or-map}
 use Rattle.ntfe_model.specs.Solver.{Line, coefficient_at}
 use Rattle.strict_solver.specs.declared.place.Place.{Place}
 use Rattle.strict_solver.specs.declared.place.Place.TheVariants.{Row, Column}
-use Rattle.strict_solver.specs.Rows.{number, number_at, line_in, IsLowRow}
+use Rattle.strict_solver.specs.Rows.{number, number_at, line_in}
 use Rattle.strict_solver.specs.Grids.{row_at, line_at, lines_by, IsPlacing}
 use Rattle.strict_solver.proofs.Elimination.{from_place, same_place}
-use Rattle.strict_solver.proofs.Pivots.{IsTable, IsLineOf, get_there, get_here, in_table}
+use Rattle.strict_solver.proofs.Pivots.{IsTable, IsLineOf, get_there}
 
 -- ---- places of a list that was written
 pub set_there : {X : Type 0} (xs : List X) (i : ℕ) (x y : X) → slice_get xs i ≡ Some y → slice_get (set xs i x) i ≡ Some x

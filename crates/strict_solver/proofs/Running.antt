@@ -1,21 +1,19 @@
 -- One more pivot of a run.
-use Rattle.std.proofs.Common.{◌≡◌, ◌≢◌, ℕ, zero, suc, ◌+◌, ◌-◌, ◌*◌, ◌^◌, ◌<◌, ◌≤◌, ◌⊎◌, inl, inr, min, Bool, true, false, cond, not, refl, sym, ap, ◌∙◌, subst, arith, ℤ, pos, ◌<ℤ◌, List, [], ◌∷◌, ◌++◌, length, get_or, Option, Some, None}
+use Rattle.std.proofs.Common.{◌≡◌, ℕ, zero, suc, ◌+◌, ◌-◌, ◌*◌, ◌^◌, ◌<◌, ◌≤◌, ◌⊎◌, inl, inr, min, not, refl, sym, ap, ◌∙◌, subst, arith, ℤ, pos, List, [], ◌∷◌, ◌++◌, length, get_or, Option, Some, None}
 use Rattle.std.specs.Prelude.{slice_get, flat_map}
 use Rattle.std.specs.Option.{option_map_or}
 use Rattle.std.specs.Ordering.{int_eq}
 use Rattle.std.specs.List.{range_with_len}
-use Rattle.ntfe_model.specs.Solver.{Line, Table, Move, coefficient_at, start_table, first_slack, next_load, first_negative, first_entering, moving, move_of, line_or_nothing, first_wide, IsStepOf, IsRun, IsPivot, Reaches, shown_step, IsWideTable}
+use Rattle.ntfe_model.specs.Solver.{Line, Table, coefficient_at, start_table, first_slack, next_load, first_negative, first_entering, moving, move_of, line_or_nothing, first_wide, IsStepOf, IsRun, IsPivot, Reaches, shown_step, IsWideTable}
 use Rattle.ntfe_model.specs.Solver.Move.{pivot, feasible, infeasible}
 use Rattle.strict_solver.specs.declared.place.Place.{Place}
 use Rattle.strict_solver.specs.declared.place.Place.TheVariants.{Row, Column}
 use Rattle.strict_solver.specs.declared.grid.Grid.{Grid}
-use Rattle.strict_solver.specs.Rows.{line_in}
-use Rattle.strict_solver.specs.Grids.{row_at, lines_by, lines_of, IsGrid, HasSameSize, IsPivotable, IsWidePivot}
-use Rattle.strict_solver.specs.Runs.{HasLoaded, Stands, IsLoadingFrom, IsLoadedAt, IsSettled, ending}
+use Rattle.strict_solver.specs.Grids.{row_at, lines_of, IsGrid, HasSameSize, IsPivotable, IsWidePivot}
+use Rattle.strict_solver.specs.Runs.{HasLoaded, Stands, IsLoadingFrom, IsLoadedAt, IsSettled}
 use Rattle.strict_solver.proofs.Rows.{wider_low}
-use Rattle.strict_solver.proofs.Pivots.{IsTable, get_here, get_there}
+use Rattle.strict_solver.proofs.Pivots.{IsTable, get_there}
 use Rattle.strict_solver.proofs.Moves.{IsMove, first_slack-found, int_eq-some}
-use Rattle.strict_solver.proofs.Elimination.{from_place}
 use Rattle.strict_solver.proofs.Placing.{lines-length, line_there, lines-table}
 use Rattle.strict_solver.proofs.Pivoting.{some_place}
 use Rattle.strict_solver.proofs.Bland.{IsMovingStep, step-loaded}

@@ -1,18 +1,17 @@
 -- The scaling of a table.
-use Rattle.std.proofs.Common.{◌≡◌, ◌≢◌, ℕ, zero, suc, ◌+◌, ◌*◌, ◌/◌, ◌^◌, ◌<◌, ◌≤◌, ◌⊎◌, inl, inr, Bool, true, false, cond, refl, sym, ap, ◌∙◌, subst, arith, ℤ, pos, negsuc, ◌*ℤ◌, ◌<ℤ◌, List, [], ◌∷◌, ◌++◌, map, take, length, get_or, unsigned_abs, nat_le, Option, Some, None}
+use Rattle.std.proofs.Common.{◌≡◌, ℕ, zero, suc, ◌+◌, ◌*◌, ◌^◌, ◌<◌, ◌≤◌, ◌⊎◌, inl, inr, true, false, refl, sym, ap, ◌∙◌, subst, arith, ℤ, pos, ◌*ℤ◌, ◌<ℤ◌, List, [], ◌∷◌, map, take, length, get_or, unsigned_abs, nat_le, Option, Some, None}
 use Rattle.std.specs.Prelude.{slice_get}
 use Rattle.std.specs.Int.{◌∣◌}
-use Rattle.std.specs.Int.Signed.{quot_z}
 use Rattle.std.specs.List.{range_with_len}
 use Rattle.std.proofs.lemmas.Int.{ints, unsigned_abs-mul}
 use Rattle.std.proofs.lemmas.Bool.Decides.{nat_tests}
 use Rattle.std.proofs.lemmas.List.{length-map, get_or-map}
-use Rattle.std.proofs.lemmas.Nat.Gcd.{dvd_trans, le_of_dvd, dvd_refl}
+use Rattle.std.proofs.lemmas.Nat.Gcd.{dvd_trans, le_of_dvd}
 use Rattle.std.proofs.Math.Nat.{dvd-mul_right, mul-dvd-mul_right}
-use Rattle.ntfe_model.specs.Solver.{Line, first_wide, last_scale, scaling_numbers, IsScale, IsScaled, IsScaling}
+use Rattle.ntfe_model.specs.Solver.{Line, first_wide, last_scale, IsScale, IsScaled, IsScaling}
 use Rattle.strict_solver.specs.Scales.{reduced_denominator, common_multiple, scale_next, scale_to, scales_of, height_by, heights_by}
 use Rattle.strict_solver.proofs.Rows.{exact_quotient}
-use Rattle.strict_solver.proofs.Pivots.{IsTable, get_here}
+use Rattle.strict_solver.proofs.Pivots.{IsTable}
 use Rattle.strict_solver.proofs.Wide.{wide_first, narrow_first}
 use Rattle.strict_solver.proofs.Denominators.{reduced_positive, whole_when, whole_only, multiple_first, multiple_second, multiple_least, multiple_positive}
 

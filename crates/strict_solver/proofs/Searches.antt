@@ -1,18 +1,17 @@
 -- Searches of a grid's slacks.
-use Rattle.std.proofs.Common.{◌≡◌, ◌≢◌, ℕ, zero, suc, ◌+◌, ◌*◌, ◌<◌, ◌≤◌, ◌⊎◌, inl, inr, Bool, true, false, cond, not, ◌&&◌, refl, sym, ap, ◌∙◌, subst, arith, ℤ, pos, negsuc, ◌<ℤ◌, ◌≤ℤ◌, List, [], ◌∷◌, length, get_or, map, Option, Some, None}
+use Rattle.std.proofs.Common.{◌≡◌, ◌≢◌, ℕ, zero, suc, ◌+◌, ◌<◌, ◌≤◌, ◌⊎◌, inl, inr, Bool, true, false, cond, not, ◌&&◌, refl, ap, ◌∙◌, subst, arith, ℤ, pos, negsuc, ◌<ℤ◌, ◌≤ℤ◌, List, length, get_or, Option, Some, None}
 use Rattle.std.specs.Prelude.{find, nat_le, int_lt, is_none, slice_get}
 use Rattle.std.specs.Option.{option_map_or, option_and_then}
 use Rattle.std.specs.Ordering.{int_eq}
 use Rattle.std.specs.List.{range_with_len}
 use Rattle.std.proofs.lemmas.Int.{ints}
 use Rattle.std.proofs.lemmas.Bool.Decides.{nat_tests, Decides-int_eq}
-use Rattle.ntfe_model.specs.Solver.{Line, coefficient_at, first_slack, first_negative, first_entering}
+use Rattle.ntfe_model.specs.Solver.{Line, coefficient_at, first_slack, first_entering}
 use Rattle.strict_solver.specs.declared.place.Place.{Place}
 use Rattle.strict_solver.specs.declared.place.Place.TheVariants.{Row, Column}
-use Rattle.strict_solver.specs.Rows.{number, number_at, line_in}
-use Rattle.strict_solver.specs.Grids.{row_at, line_at, lines_by}
-use Rattle.strict_solver.proofs.Elimination.{from_place}
-use Rattle.strict_solver.proofs.Placing.{lines-length, line_there, coefficient_there}
+use Rattle.strict_solver.specs.Rows.{number, line_in}
+use Rattle.strict_solver.specs.Grids.{row_at, lines_by}
+use Rattle.strict_solver.proofs.Placing.{line_there, coefficient_there}
 use Rattle.strict_solver.proofs.Pivoting.{some_place}
 use Rattle.strict_solver.proofs.Tables.{get_line}
 

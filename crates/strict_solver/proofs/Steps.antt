@@ -1,7 +1,7 @@
 -- The pivot as a function of the table, and how many moves are still to come.
 --     step_lines x y s      the table after the pivot on x and y
 --     moves_left            the number of moves to come, within a bound; it falls at each move
-use Rattle.std.proofs.Common.{◌≡◌, ◌≢◌, ℕ, zero, suc, ◌+◌, ◌-◌, ◌*◌, ◌<◌, ◌≤◌, ◌==◌, ◌⊎◌, inl, inr, Bool, true, false, cond, refl, sym, ap, ◌∙◌, subst, arith, ℤ, pos, negsuc, ◌*ℤ◌, ◌<ℤ◌, List, [], ◌∷◌, length, get_or, Option, Some, None}
+use Rattle.std.proofs.Common.{◌≡◌, ◌≢◌, ℕ, zero, suc, ◌+◌, ◌-◌, ◌<◌, ◌≤◌, ◌==◌, inl, inr, Bool, true, false, cond, refl, sym, ap, ◌∙◌, subst, arith, ℤ, pos, negsuc, ◌*ℤ◌, ◌<ℤ◌, List, [], ◌∷◌, length, get_or, Option, Some, None}
 use Rattle.std.specs.Prelude.{slice_get}
 use Rattle.std.proofs.lemmas.Int.{ints}
 use Rattle.std.proofs.lemmas.Bool.Decides.{nat_tests}
@@ -13,8 +13,8 @@ use Rattle.strict_solver.proofs.Reduced.{reduced, reduced-is}
 use Rattle.strict_solver.proofs.Pivots.{IsTable, get_here, get_there}
 use Rattle.strict_solver.proofs.Values.{product_positive}
 use Rattle.strict_solver.proofs.Moves.{IsMove, moving-pivot, first_slack-found, entering-found}
-use Rattle.strict_solver.proofs.Bland.{IsMovingStep, IsMoving, IsLoaded, step-table, step-loaded}
-use Rattle.strict_solver.proofs.Bases.{power, basis_code-small}
+use Rattle.strict_solver.proofs.Bland.{IsMovingStep, IsMoving, IsLoaded, step-table}
+use Rattle.strict_solver.proofs.Bases.{power}
 use Rattle.strict_solver.proofs.Bound.{few_moves}
 
 abbrev next_line : ℕ → ℕ → Line → ℕ → Option Line → Option Line

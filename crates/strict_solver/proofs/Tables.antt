@@ -1,19 +1,18 @@
 -- The table of a grid after a pivot, and its first wide number.
-use Rattle.std.proofs.Common.{◌≡◌, ◌≢◌, ℕ, zero, suc, ◌+◌, ◌*◌, ◌^◌, ◌<◌, ◌≤◌, ◌⊎◌, inl, inr, Bool, true, false, cond, refl, sym, ap, ◌∙◌, subst, arith, ℤ, pos, ◌<ℤ◌, List, [], ◌∷◌, ◌++◌, map, length, get_or, set, length-set, unsigned_abs, nat_le, Option, Some, None}
+use Rattle.std.proofs.Common.{◌≡◌, ◌≢◌, ℕ, zero, suc, ◌+◌, ◌^◌, ◌<◌, ◌≤◌, ◌⊎◌, inl, inr, Bool, true, false, cond, refl, sym, ap, ◌∙◌, subst, arith, ℤ, pos, List, [], ◌∷◌, ◌++◌, length, get_or, set, length-set, unsigned_abs, nat_le, Option, Some, None}
 use Rattle.std.specs.Prelude.{slice_get, flat_map}
 use Rattle.std.proofs.lemmas.Bool.Decides.{nat_tests}
 use Rattle.std.proofs.lemmas.List.{length-map, get_or-map}
 use Rattle.ntfe_model.specs.Solver.{Line, line_numbers, line_or_nothing, coefficient_at, solved_for, with_put_in, IsReduced, IsNextLine, IsPivot, first_wide}
 use Rattle.strict_solver.specs.declared.place.Place.{Place}
 use Rattle.strict_solver.specs.declared.place.Place.TheVariants.{Row, Column}
-use Rattle.strict_solver.specs.declared.row.PivotRow.{PivotRow}
 use Rattle.strict_solver.specs.Rows.{number, number_at, line_in, AreNarrow, IsLowRow, IsSolvedRow, IsCombination}
-use Rattle.strict_solver.specs.Grids.{row_at, line_at, lines_by, IsEliminated, AreEliminated, IsFirstWideRow, IsPlacing, IsPivotable}
+use Rattle.strict_solver.specs.Grids.{row_at, line_at, lines_by, IsPlacing, IsPivotable}
 use Rattle.strict_solver.proofs.Wide.{all_narrow, zero_not_wide}
 use Rattle.strict_solver.proofs.One.{reduced_same}
 use Rattle.strict_solver.proofs.Elimination.{from_place, same_place}
 use Rattle.strict_solver.proofs.Pivots.{IsTable, pivot-new, pivot-left, in_table}
-use Rattle.strict_solver.proofs.Placing.{not_same, at_leaving, at_entering, at_others, somewhere, placing_after, lines-length, line_there, lines-table}
+use Rattle.strict_solver.proofs.Placing.{at_leaving, at_entering, at_others, somewhere, lines-length, line_there, lines-table}
 use Rattle.strict_solver.proofs.Pivoting.{some_place, solved_low, solved_line, put_line, combined_positive}
 use Rattle.strict_solver.proofs.Steps.{step_lines, step-is}
 

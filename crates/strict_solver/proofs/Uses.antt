@@ -1,5 +1,5 @@
 -- What a caller needs around a solve.
-use Rattle.std.proofs.Common.{◌≡◌, ℕ, zero, suc, refl, sym, subst, arith, ℤ, List, [], ◌∷◌, ◌++◌, Some, None, Option}
+use Rattle.std.proofs.Common.{◌≡◌, ℕ, zero, suc, refl, subst, ℤ, List, [], ◌∷◌, ◌++◌, Some}
 use Rattle.std.specs.Prelude.{slice_get}
 use Rattle.ntfe_model.specs.declared.nogood.Fold.{Fold}
 use Rattle.strict_solver.specs.declared.run.Solved.{Solved}

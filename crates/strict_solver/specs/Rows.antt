@@ -1,5 +1,5 @@
 -- One row of a grid as a list of numbers: its d, its c, and a coefficient for each column.
-use Rattle.std.specs.Prelude.{◌≡◌, ◌≢◌, ℕ, ◌+◌, ◌^◌, ◌<◌, ◌≤◌, ℤ, pos, ◌+ℤ◌, ◌*ℤ◌, neg_ℤ, ◌<ℤ◌, unsigned_abs, List, map, length, slice_get, slice_index_or, slice_set, Some}
+use Rattle.std.specs.Prelude.{◌≡◌, ◌≢◌, ℕ, ◌^◌, ◌<◌, ◌≤◌, ℤ, pos, ◌+ℤ◌, ◌*ℤ◌, neg_ℤ, ◌<ℤ◌, unsigned_abs, List, map, length, slice_get, slice_index_or, slice_set, Some}
 use Rattle.std.specs.Int.{◌∣◌}
 use Rattle.ntfe_nums.specs.Vectors.{sign}
 use Rattle.ntfe_model.specs.Solver.{Line}

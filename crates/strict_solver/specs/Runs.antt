@@ -2,7 +2,7 @@
 use Rattle.std.specs.Prelude.{◌≡◌, ℕ, ◌-◌, ◌<◌, ◌≤◌, ℤ, pos, List, length, slice_index_or, flat_map, Option, Some, None}
 use Rattle.std.specs.List.{range_with_len}
 use Rattle.ntfe_model.specs.Solver.{Line, Move, coefficient_at, next_load, move_of, line_or_nothing, first_wide, Reaches, shown_step}
-use Rattle.ntfe_model.specs.Solver.Move.{pivot, feasible, infeasible}
+use Rattle.ntfe_model.specs.Solver.Move.{feasible, infeasible}
 
 -- after so many pivots the run stands at this table, with these heights still to be loaded, and no table was wide
 pub record Stands (columns width : ℕ) (rs : List (List ℤ)) (to_load : List ℕ) (steps : ℕ) (lines : List (Option Line)) : Type 0 where

@@ -1,5 +1,5 @@
 -- The scaling of a table as functions.
-use Rattle.std.specs.Prelude.{◌≡◌, ℕ, zero, suc, ◌+◌, ◌*◌, ◌/◌, ◌%◌, ◌^◌, ◌<◌, ◌≤◌, ◌==◌, cond, ℤ, pos, ◌*ℤ◌, unsigned_abs, List, map, slice_index_or, Option, Some, None}
+use Rattle.std.specs.Prelude.{ℕ, zero, suc, ◌+◌, ◌*◌, ◌/◌, ◌%◌, ◌==◌, cond, ℤ, pos, ◌*ℤ◌, unsigned_abs, List, map, slice_index_or, Option, Some, None}
 use Rattle.std.specs.Int.Signed.{quot_z}
 use Rattle.std.specs.List.{range_with_len}
 use Rattle.ntfe_model.specs.Solver.{Line}

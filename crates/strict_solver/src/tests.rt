@@ -129,6 +129,9 @@ fn folds_of_fifteen_faces(rt: HostRuntime) -> Result<(), Fail> {
     let Solved::Feasible = tableau.solve(&rows, 62) else {
         return Err(Fail::new("no heights"));
     };
-    assert_eq!(rt; tableau.heights(), [6, 3, 3, 1, 3, 1, 0, 3, 1, 1, 0, 1, 0, 0, 0].as_slice());
+    assert_eq!(rt;
+        tableau.heights(),
+        [6, 3, 3, 1, 3, 1, 0, 3, 1, 1, 0, 1, 0, 0, 0].as_slice()
+    );
     Ok(())
 }

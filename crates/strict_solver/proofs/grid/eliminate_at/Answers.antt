@@ -1,4 +1,4 @@
-use Rattle.std.proofs.Common.{◌≡◌, ◌≢◌, ℕ, ◌∙◌, sym, ap, subst, arith, ℤ, List, length}
+use Rattle.std.proofs.Common.{◌∙◌, sym, subst, ℤ, List, length}
 use Rattle.strict_solver.specs.Rows.{AreNarrow}
 use Rattle.strict_solver.specs.Grids.{row_at, IsEliminated}
 use Rattle.strict_solver.proofs.Rows.{wider_low, zero_word}

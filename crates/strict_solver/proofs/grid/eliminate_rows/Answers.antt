@@ -1,10 +1,8 @@
-use Rattle.std.proofs.Common.{◌≡◌, ◌≢◌, ℕ, ◌+◌, ◌∙◌, sym, ap, subst, arith, ℤ, List, length, Some}
-use Rattle.std.specs.Prelude.{slice_get}
-use Rattle.strict_solver.specs.declared.place.Place.{Place}
+use Rattle.std.proofs.Common.{◌≡◌, ◌≢◌, ℕ, ◌+◌, ◌∙◌, sym, subst, arith, ℤ, List, length}
 use Rattle.strict_solver.specs.declared.place.Place.TheVariants.{Row, Column}
 use Rattle.strict_solver.specs.Rows.{IsLowRow, AreNarrow}
 use Rattle.strict_solver.specs.Grids.{row_at, IsEliminated}
-use Rattle.strict_solver.proofs.Elimination.{Eliminating, start, skip, step, at_place, from_place, same_place, first_wide_row, wide_answer}
+use Rattle.strict_solver.proofs.Elimination.{Eliminating, skip, step, at_place, from_place, same_place, first_wide_row, wide_answer}
 use Rattle.strict_solver.proofs.grid.eliminate_rows.Goals as goal
 use Rattle.strict_solver.proofs.grid.eliminate_rows.Goals.{in-Row+else-r-pivot, else-r-pivot-via-then-r-pivot+else-not-eliminate_at, else-r-pivot-via-else-r-pivot, in_default}
 

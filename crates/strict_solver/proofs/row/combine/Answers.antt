@@ -1,4 +1,4 @@
-use Rattle.std.proofs.Common.{◌≡◌, ℕ, ℤ, ◌^◌, ◌<◌, ◌+ℤ◌, ◌*ℤ◌, length, length-set, set, sym, ◌∙◌, subst, arith, unsigned_abs, to_z, of_z, w64, pos}
+use Rattle.std.proofs.Common.{◌≡◌, ◌^◌, ◌<◌, ◌+ℤ◌, ◌*ℤ◌, length-set, sym, ◌∙◌, subst, arith, unsigned_abs, to_z, of_z, w64, pos}
 use Rattle.std.specs.Int.{w128}
 use Rattle.std.proofs.lemmas.List.{get_or_read}
 use Rattle.strict_solver.specs.Rows.{number}

@@ -1,10 +1,10 @@
-use Rattle.std.proofs.Common.{◌≡◌, ℕ, ◌+◌, ◌<◌, ◌≤◌, ◌⊎◌, inl, inr, refl, sym, ap, ◌∙◌, subst, arith, ℤ, pos, List, length, unsigned_abs, below_more}
+use Rattle.std.proofs.Common.{◌≡◌, ℕ, ◌+◌, ◌<◌, ◌≤◌, ◌⊎◌, inl, inr, sym, subst, arith, ℤ, pos, List, length, unsigned_abs, below_more}
 use Rattle.std.specs.Int.{◌∣◌, IsGcd}
 use Rattle.std.proofs.Math.Nat.{one-dvd}
 use Rattle.std.proofs.lemmas.Nat.Gcd.{dvd_trans, dvd-zero}
 use Rattle.std.proofs.lemmas.Int.{ints}
 use Rattle.std.proofs.lemmas.List.{get_or_past}
-use Rattle.strict_solver.specs.Rows.{number, IsCommonDivisor}
+use Rattle.strict_solver.specs.Rows.{number}
 use Rattle.strict_solver.proofs.row.common_divisor.Goals as goal
 
 divides_next : (xs : List ℤ) (i d x g : ℕ) → x ≡ unsigned_abs (number xs i) → IsGcd d x g → ((k : ℕ) → k < i → d ∣ unsigned_abs (number xs k)) → (k : ℕ) → k < i + 1 → g ∣ unsigned_abs (number xs k)

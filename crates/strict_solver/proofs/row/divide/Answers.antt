@@ -1,10 +1,9 @@
-use Rattle.std.proofs.Common.{◌≡◌, ℕ, zero, suc, ℤ, ◌^◌, ◌*◌, ◌/◌, ◌<◌, ◌≤◌, ◌*ℤ◌, ◌<ℤ◌, ◌⊎◌, inl, inr, neg_ℤ, negsuc, length, length-set, sym, ap, ◌∙◌, subst, arith, to_z, of_z, pos, unsigned_abs, FitsSigned}
-use Rattle.std.specs.Int.{w128, ◌∣◌}
+use Rattle.std.proofs.Common.{◌≡◌, ℕ, zero, suc, ℤ, ◌^◌, ◌*◌, ◌<◌, ◌*ℤ◌, ◌<ℤ◌, negsuc, length-set, sym, ap, ◌∙◌, arith, to_z, of_z, pos, unsigned_abs}
+use Rattle.std.specs.Int.{w128}
 use Rattle.std.specs.Int.Signed.{quot_z}
 use Rattle.std.proofs.lemmas.Int.{ints, unsigned_abs-mul}
-use Rattle.std.proofs.Math.Nat.{mul-div_cancel'}
 use Rattle.strict_solver.specs.Rows.{number}
-use Rattle.strict_solver.proofs.Rows.{set_next, set_rest, number_past, exact_quotient, unwrap128}
+use Rattle.strict_solver.proofs.Rows.{set_next, set_rest, exact_quotient, unwrap128}
 use Rattle.strict_solver.proofs.row.divide.Goals as goal
 
 -- the quotient is no larger

@@ -1,8 +1,8 @@
-use Rattle.std.proofs.Common.{◌≡◌, ℕ, ◌∙◌, sym, ap, subst, arith, Bool, true, false, ℤ, pos, negsuc, ◌^◌, ◌<◌, ◌≤◌, ◌*ℤ◌, ◌+ℤ◌, ◌<ℤ◌, List, set, length, length-set, to_z, of_z, w64, unsigned_abs, FitsSigned, MatchBool}
+use Rattle.std.proofs.Common.{◌≡◌, ℕ, ◌∙◌, sym, ap, subst, arith, Bool, true, false, ℤ, pos, ◌^◌, ◌<◌, ◌*ℤ◌, ◌+ℤ◌, ◌<ℤ◌, List, set, length-set, to_z, unsigned_abs, MatchBool}
 use Rattle.std.specs.Int.{w128, ◌∣◌}
 use Rattle.std.proofs.lemmas.Int.{ints, to_z_pos, fits_signed_from_abs}
 use Rattle.ntfe_nums.proofs.Ring.{one_product}
-use Rattle.strict_solver.specs.Rows.{number, AreNarrow, IsWideRow, IsCombination, IsCommonDivisor}
+use Rattle.strict_solver.specs.Rows.{number, AreNarrow, IsWideRow, IsCombination}
 use Rattle.strict_solver.proofs.Rows.{unwrap64}
 use Rattle.strict_solver.proofs.Combine.{AreSums, first_some, divisor_positive, divisor_small, combined}
 use Rattle.strict_solver.proofs.row.eliminate.Goals as goal

@@ -1,6 +1,6 @@
-use Rattle.std.proofs.Common.{◌≡◌, ℕ, ◌<◌, ◌^◌, take, drop, map, unsigned_abs}
+use Rattle.std.proofs.Common.{◌≡◌, drop, map}
 use Rattle.ntfe_model.specs.Solver.{first_wide}
-use Rattle.strict_solver.specs.Rows.{number, number_at}
+use Rattle.strict_solver.specs.Rows.{number_at}
 use Rattle.strict_solver.proofs.row.first_wide_number.Given as goal
 
 abbrev pub invariant-loop-place : goal.invariant-loop-place

@@ -1,7 +1,7 @@
-use Rattle.std.proofs.Common.{◌≡◌, ℕ, ℤ, ◌^◌, ◌<◌, ◌≤◌, ◌-ℤ◌, ◌⊎◌, inl, inr, neg_ℤ, length, length-set, sym, ap, ◌∙◌, arith, to_z, of_z, w64, pos, unsigned_abs}
+use Rattle.std.proofs.Common.{◌≡◌, ℤ, ◌^◌, ◌<◌, ◌-ℤ◌, neg_ℤ, length-set, ◌∙◌, arith, to_z, of_z, w64, pos, unsigned_abs}
 use Rattle.std.proofs.lemmas.Int.{ints}
 use Rattle.strict_solver.specs.Rows.{number}
-use Rattle.strict_solver.proofs.Rows.{unwrap64, set_next, set_rest, number_past}
+use Rattle.strict_solver.proofs.Rows.{unwrap64, set_next, set_rest}
 use Rattle.strict_solver.proofs.row.negate.Goals as goal
 
 negated : (x y : ℤ) → x ≡ y → unsigned_abs y < 2 ^ 62 → to_z w64 (of_z w64 (pos 0 -ℤ to_z w64 (of_z w64 x))) ≡ neg_ℤ y

@@ -1,7 +1,7 @@
-use Rattle.std.proofs.Common.{◌≡◌, ℕ, ◌^◌, ◌<◌, ◌≤◌, ◌⊎◌, inl, inr, sym, ap, ◌∙◌, subst, arith, ℤ, pos, List, length, take, unsigned_abs}
-use Rattle.std.proofs.lemmas.List.{take_all, get_or_past}
-use Rattle.strict_solver.specs.Rows.{number, AreNarrow}
-use Rattle.strict_solver.proofs.Rows.{narrow_all, zero_narrow}
+use Rattle.std.proofs.Common.{◌≡◌, sym, ◌∙◌, subst, arith}
+use Rattle.std.proofs.lemmas.List.{take_all}
+use Rattle.strict_solver.specs.Rows.{AreNarrow}
+use Rattle.strict_solver.proofs.Rows.{narrow_all}
 use Rattle.strict_solver.proofs.row.store.Goals as goal
 
 pub returns : goal.returns

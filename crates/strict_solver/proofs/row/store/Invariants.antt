@@ -1,4 +1,4 @@
-use Rattle.std.proofs.Common.{◌≡◌, ℕ, ◌<◌, ◌^◌, length, take, unsigned_abs}
+use Rattle.std.proofs.Common.{◌≡◌, ℕ, ◌<◌, ◌^◌, take, unsigned_abs}
 use Rattle.strict_solver.specs.Rows.{number}
 use Rattle.strict_solver.proofs.row.store.Given as goal
 

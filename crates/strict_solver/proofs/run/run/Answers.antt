@@ -1,10 +1,10 @@
-use Rattle.std.proofs.Common.{◌≡◌, ℕ, ◌+◌, ◌-◌, ◌<◌, ◌≤◌, ◌∙◌, sym, ap, subst, arith, ℤ, List, length, map, Some, None, Option, to_z, of_z, inr}
+use Rattle.std.proofs.Common.{◌≡◌, ℕ, ◌+◌, ◌-◌, ◌∙◌, sym, ap, subst, arith, ℤ, List, length, map, Some, None, Option, to_z, of_z, inr}
 use Rattle.std.specs.Int.{w128}
 use Rattle.std.proofs.lemmas.Int.{ints}
 use Rattle.std.proofs.lemmas.List.{length-map}
 use Rattle.ntfe_model.specs.Solver.{Line, fold_row, first_wide, scaling_numbers, multipliers_of, IsWideScaling}
 use Rattle.strict_solver.specs.Scales.{scale_to, scales_of, heights_by}
-use Rattle.strict_solver.specs.Grids.{lines_of, IsGrid}
+use Rattle.strict_solver.specs.Grids.{lines_of}
 use Rattle.strict_solver.specs.Runs.{Stands, IsLoadedAt, IsSettled, HasLoaded}
 use Rattle.std.specs.List.{range_with_len}
 use Rattle.strict_solver.proofs.Parts.{lent_back}

@@ -1,9 +1,9 @@
-use Rattle.std.proofs.Common.{◌≡◌, ℕ, ◌*◌, ◌/◌, ◌<◌, ◌∙◌, sym, ap, subst, arith, unsigned_abs, ℤ, pos}
+use Rattle.std.proofs.Common.{◌≡◌, ℕ, ◌*◌, ◌/◌, ◌<◌, sym, subst, arith, unsigned_abs}
 use Rattle.std.specs.Int.{IsGcd}
 use Rattle.std.proofs.lemmas.Int.{ints}
 use Rattle.std.proofs.lemmas.Nat.Gcd.{same_from_IsGcd}
 use Rattle.strict_solver.specs.Scales.{gcd_of, reduced_denominator, common_multiple}
-use Rattle.strict_solver.proofs.Denominators.{gcd_of-is, gcd_positive, reduced_positive, multiple_positive, gcd_first_positive}
+use Rattle.strict_solver.proofs.Denominators.{gcd_of-is, reduced_positive, multiple_positive, gcd_first_positive}
 use Rattle.strict_solver.proofs.scale.next_scale.Goals as goal
 use Rattle.strict_solver.proofs.scale.next_scale.Goals.{After-from-3, After-from-5}
 

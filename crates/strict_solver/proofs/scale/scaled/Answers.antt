@@ -1,1 +1,0 @@
-use Rattle.strict_solver.proofs.scale.scaled.Goals as goal

@@ -1,4 +1,4 @@
-use Rattle.std.proofs.Common.{◌≡◌, ℕ, ◌<◌, length, pos}
+use Rattle.std.proofs.Common.{◌≡◌, ℕ, ◌<◌, pos}
 use Rattle.strict_solver.specs.Rows.{number}
 use Rattle.strict_solver.proofs.start.clear_row.Given as goal
 

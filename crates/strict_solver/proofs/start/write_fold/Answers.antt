@@ -1,4 +1,4 @@
-use Rattle.std.proofs.Common.{◌≡◌, ℕ, ◌+◌, ◌-◌, ◌∙◌, ap, arith, ℤ, pos, neg_ℤ, ◌+ℤ◌, length}
+use Rattle.std.proofs.Common.{◌+◌, ◌-◌, ◌∙◌, ap, arith, ◌+ℤ◌, length}
 use Rattle.ntfe_model.specs.Certificates.{where_equal}
 use Rattle.strict_solver.specs.Rows.{number}
 use Rattle.strict_solver.proofs.Starting.{clear_small, sign_word, start_row}

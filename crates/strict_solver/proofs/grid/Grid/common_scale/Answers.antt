@@ -1,10 +1,9 @@
-use Rattle.std.proofs.Common.{◌≡◌, ℕ, ◌+◌, ◌*◌, ◌/◌, ◌^◌, ◌<◌, ◌≤◌, ◌⊎◌, inl, inr, ◌∙◌, sym, ap, subst, arith, pow_mono, ℤ, pos, unsigned_abs, List, length, get_or, map, Some, None, to_z}
+use Rattle.std.proofs.Common.{◌≡◌, ℕ, ◌+◌, ◌/◌, ◌^◌, ◌<◌, ◌≤◌, ◌⊎◌, inl, inr, ◌∙◌, sym, ap, subst, arith, pow_mono, pos, unsigned_abs, length, get_or, map, Some, None, to_z}
 use Rattle.std.specs.Int.{w128}
-use Rattle.std.proofs.lemmas.Int.{ints, to_z_pos}
+use Rattle.std.proofs.lemmas.Int.{to_z_pos}
 use Rattle.std.proofs.lemmas.List.{length-map, get_or-map}
 use Rattle.std.proofs.Math.Nat.{div-eq_of_lt, div-lt_iff_lt-mul}
 use Rattle.std.proofs.lemmas.Nat.{pow_pos}
-use Rattle.ntfe_model.specs.Solver.{first_wide}
 use Rattle.strict_solver.specs.Grids.{lines_of}
 use Rattle.strict_solver.specs.Scales.{scale_to, scales_of, scale_next}
 use Rattle.strict_solver.proofs.Running.{wider_grid}

@@ -1,13 +1,9 @@
-use Rattle.std.proofs.Common.{◌≡◌, ◌≢◌, ℕ, ◌+◌, ◌*◌, ◌<◌, ◌≤◌, ◌∙◌, refl, sym, ap, subst, arith, ℤ, pos, List, length, set, length-set, Some, Option, None}
-use Rattle.std.specs.Prelude.{slice_get, vec_len, MatchOption}
+use Rattle.std.proofs.Common.{◌≡◌, ℕ, ◌+◌, ◌<◌, ◌∙◌, sym, ap, subst, arith, ℤ, pos, List, length, set, length-set, Some, Option, None}
+use Rattle.std.specs.Prelude.{vec_len, MatchOption}
 use Rattle.std.specs.Vec.{with_items}
-use Rattle.std.proofs.lemmas.List.{with_items_is}
-use Rattle.ntfe_model.specs.Solver.{IsPivot}
 use Rattle.strict_solver.specs.declared.place.Place.{Place}
 use Rattle.strict_solver.specs.declared.place.Place.TheVariants.{Row, Column}
-use Rattle.strict_solver.specs.declared.row.PivotRow.{PivotRow}
-use Rattle.strict_solver.specs.Rows.{number, AreNarrow, IsLowRow}
-use Rattle.strict_solver.specs.Grids.{row_at, lines_of, IsPivotRow, AreRowsFor, AreEliminated, IsFirstWideRow, IsGrid, IsWidePivot}
+use Rattle.strict_solver.specs.Grids.{row_at, AreRowsFor, AreEliminated, IsFirstWideRow}
 use Rattle.strict_solver.proofs.Rows.{wider_low}
 use Rattle.strict_solver.proofs.Parts.{lent_back, row_length}
 use Rattle.strict_solver.proofs.Elimination.{from_place}

@@ -1,7 +1,5 @@
-use Rattle.std.proofs.Common.{◌≡◌, ℕ, ◌+◌, ◌*◌, ◌<◌, ◌≤◌, ◌∙◌, sym, ap, subst, arith, Bool, true, false, ℤ, pos, length, Some, to_z, of_z, w64}
-use Rattle.std.specs.Prelude.{slice_get, int_lt}
-use Rattle.ntfe_model.specs.Solver.{Line, coefficient_at}
-use Rattle.strict_solver.specs.declared.place.Place.{Place}
+use Rattle.std.proofs.Common.{◌≡◌, ◌+◌, ◌∙◌, sym, ap, arith, false, pos, length, to_z, of_z, w64}
+use Rattle.std.specs.Prelude.{int_lt}
 use Rattle.strict_solver.specs.declared.place.Place.TheVariants.{Row, Column}
 use Rattle.strict_solver.specs.Rows.{number, line_in}
 use Rattle.strict_solver.specs.Grids.{row_at, lines_of}

@@ -1,15 +1,13 @@
-use Rattle.std.proofs.Common.{◌≡◌, ℕ, ◌+◌, ◌*◌, ◌<◌, ◌≤◌, ◌∙◌, sym, ap, subst, arith, Bool, true, false, ℤ, pos, ◌<ℤ◌, ◌≤ℤ◌, length, Some, to_z, of_z, w64}
-use Rattle.std.specs.Prelude.{slice_get, int_lt}
-use Rattle.std.proofs.lemmas.Int.{ints}
+use Rattle.std.proofs.Common.{◌≡◌, ◌+◌, ◌∙◌, sym, ap, arith, Bool, false, pos, to_z, of_z, w64}
+use Rattle.std.specs.Prelude.{int_lt}
 use Rattle.ntfe_model.specs.Solver.{Line}
-use Rattle.strict_solver.specs.declared.place.Place.{Place}
 use Rattle.strict_solver.specs.declared.place.Place.TheVariants.{Row, Column}
-use Rattle.strict_solver.specs.Rows.{number, line_in}
+use Rattle.strict_solver.specs.Rows.{number}
 use Rattle.strict_solver.specs.Grids.{row_at, lines_of}
 use Rattle.strict_solver.proofs.Rows.{unwrap64}
 use Rattle.strict_solver.proofs.Elimination.{at_place}
 use Rattle.strict_solver.proofs.Placing.{lines-length}
-use Rattle.strict_solver.proofs.Searches.{slack_test, slack_line, slack_other, slack_before, first_slack_at, first_slack_none, below_next}
+use Rattle.strict_solver.proofs.Searches.{slack_test, slack_line, slack_other, first_slack_at, first_slack_none, below_next}
 use Rattle.strict_solver.proofs.grid.Grid.first_negative.Goals as goal
 use Rattle.strict_solver.proofs.grid.Grid.first_negative.Goals.{in-Row+else-cell-lt0, in_default}
 

@@ -1,15 +1,13 @@
-use Rattle.std.proofs.Common.{◌≡◌, ℕ, ◌+◌, ◌*◌, ◌<◌, ◌≤◌, ◌∙◌, sym, ap, subst, arith, Bool, true, false, not, ℤ, pos, length, Some, of_z, w64}
-use Rattle.std.specs.Prelude.{slice_get}
+use Rattle.std.proofs.Common.{◌≡◌, ℕ, ◌+◌, ◌∙◌, sym, ap, arith, Bool, false, not, pos, of_z, w64}
 use Rattle.std.specs.Ordering.{int_eq}
 use Rattle.ntfe_model.specs.Solver.{Line, coefficient_at}
-use Rattle.strict_solver.specs.declared.place.Place.{Place}
 use Rattle.strict_solver.specs.declared.place.Place.TheVariants.{Row, Column}
 use Rattle.strict_solver.specs.Rows.{number, line_in}
 use Rattle.strict_solver.specs.Grids.{row_at, lines_of}
 use Rattle.strict_solver.proofs.Rows.{zero_word, word_zero}
-use Rattle.strict_solver.proofs.Elimination.{at_place, from_place, same_place}
+use Rattle.strict_solver.proofs.Elimination.{at_place}
 use Rattle.strict_solver.proofs.Placing.{lines-length, coefficient_there}
-use Rattle.strict_solver.proofs.Searches.{slack_test, slack_line, slack_other, slack_before, first_slack_at, first_slack_none, below_next, zero_fails, other_passes, height_basic}
+use Rattle.strict_solver.proofs.Searches.{slack_test, slack_line, slack_other, first_slack_at, first_slack_none, below_next, zero_fails, other_passes, height_basic}
 use Rattle.strict_solver.proofs.grid.Grid.first_with.Goals as goal
 use Rattle.strict_solver.proofs.grid.Grid.first_with.Goals.{in-Row+else-cell-ne0, in_default-index}
 

@@ -1,8 +1,7 @@
-use Rattle.std.proofs.Common.{◌≡◌, ℕ, ◌+◌, ◌*◌, ◌^◌, ◌<◌, ◌≤◌, ◌∙◌, sym, ap, subst, arith, ℤ, pos, ◌<ℤ◌, ◌*ℤ◌, unsigned_abs, length, get_or, Some, None}
+use Rattle.std.proofs.Common.{◌≡◌, ◌+◌, ◌*◌, ◌^◌, ◌<◌, ◌≤◌, ◌∙◌, sym, ap, subst, arith, pos, ◌<ℤ◌, ◌*ℤ◌, unsigned_abs, length, Some}
 use Rattle.std.specs.Prelude.{slice_get}
-use Rattle.strict_solver.specs.declared.place.Place.{Place}
 use Rattle.strict_solver.specs.declared.place.Place.TheVariants.{Row, Column}
-use Rattle.strict_solver.specs.Rows.{number, IsLowRow}
+use Rattle.strict_solver.specs.Rows.{IsLowRow}
 use Rattle.strict_solver.specs.Grids.{row_at}
 use Rattle.strict_solver.specs.Scales.{height_by}
 use Rattle.std.specs.Int.Signed.{quot_z}

@@ -1,11 +1,10 @@
-use Rattle.std.proofs.Common.{◌≡◌, ℕ, ◌+◌, ◌-◌, ◌^◌, ◌<◌, ◌≤◌, ◌∙◌, min, not, refl, sym, ap, subst, arith, ℤ, pos, List, length, Some, None, Option, to_z, of_z}
+use Rattle.std.proofs.Common.{◌≡◌, ℕ, ◌+◌, ◌<◌, ◌∙◌, not, sym, ap, subst, arith, ℤ, pos, List, length, Some, None, Option, to_z, of_z}
 use Rattle.std.specs.Int.{w128}
 use Rattle.std.specs.Ordering.{int_eq}
 use Rattle.std.proofs.lemmas.Int.{ints}
 use Rattle.ntfe_model.specs.Solver.{Line, coefficient_at, first_slack, IsWideTable}
 use Rattle.strict_solver.specs.declared.grid.Grid.{Grid}
-use Rattle.strict_solver.specs.Grids.{lines_of, IsGrid, HasSameSize}
-use Rattle.strict_solver.specs.Runs.{IsLoadingFrom}
+use Rattle.strict_solver.specs.Grids.{lines_of, IsGrid}
 use Rattle.strict_solver.proofs.Running.{wider_grid, grid_table, grid_length, grid_narrow, load-pivotable, load_skip, load_more, load_wide, load_end, load_start, same_size_next, same_size, IsLoadingGrid}
 use Rattle.strict_solver.proofs.grid.Grid.load.Goals as goal
 use Rattle.strict_solver.proofs.grid.Grid.load.Goals.{in-Some+in_default-pivot, in_default}

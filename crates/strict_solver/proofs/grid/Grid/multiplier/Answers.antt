@@ -1,13 +1,12 @@
-use Rattle.std.proofs.Common.{◌≡◌, ◌≢◌, ℕ, ◌+◌, ◌*◌, ◌^◌, ◌<◌, ◌≤◌, ◌==◌, ◌∙◌, Bool, true, false, cond, refl, sym, ap, subst, arith, ℤ, pos, neg_ℤ, ◌<ℤ◌, unsigned_abs, length, get_or, Option, Some, None, to_z, of_z, w64, FitsSigned}
+use Rattle.std.proofs.Common.{◌≡◌, ◌≢◌, ℕ, ◌+◌, ◌*◌, ◌^◌, ◌<◌, ◌≤◌, ◌==◌, ◌∙◌, Bool, true, false, cond, refl, sym, ap, subst, arith, ℤ, pos, neg_ℤ, unsigned_abs, length, get_or, Option, Some, None, to_z, of_z, w64, FitsSigned}
 use Rattle.std.specs.Prelude.{slice_get}
 use Rattle.std.proofs.lemmas.Int.{ints, fits_signed_from_abs}
 use Rattle.std.proofs.lemmas.Bool.Decides.{nat_tests}
 use Rattle.ntfe_model.specs.Solver.{Line, multiplier_at, coefficient_at}
-use Rattle.strict_solver.specs.declared.place.Place.{Place}
 use Rattle.strict_solver.specs.declared.place.Place.TheVariants.{Row, Column}
 use Rattle.strict_solver.specs.declared.grid.Grid.{Grid}
-use Rattle.strict_solver.specs.Rows.{number, number_at, line_in, IsLowRow}
-use Rattle.strict_solver.specs.Grids.{row_at, lines_of, IsGrid}
+use Rattle.strict_solver.specs.Rows.{number, line_in, IsLowRow}
+use Rattle.strict_solver.specs.Grids.{row_at, lines_of}
 use Rattle.strict_solver.proofs.Rows.{unwrap64}
 use Rattle.strict_solver.proofs.Elimination.{at_place}
 use Rattle.strict_solver.proofs.Placing.{line_there, coefficient_there}

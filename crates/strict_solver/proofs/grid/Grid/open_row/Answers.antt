@@ -1,4 +1,4 @@
-use Rattle.std.proofs.Common.{◌≡◌, ◌≢◌, ℕ, ◌+◌, ◌-◌, ◌*◌, ◌≤◌, ◌++◌, ◌∙◌, Bool, true, false, sym, ap, subst, arith, ℤ, List, length, take, drop, MatchBool}
+use Rattle.std.proofs.Common.{◌≡◌, ℕ, ◌+◌, ◌-◌, ◌*◌, ◌≤◌, ◌++◌, ◌∙◌, Bool, true, false, sym, ap, subst, arith, ℤ, List, length, take, drop, MatchBool}
 use borrow.Rule.Slice.PartMut.{put_mid}
 use Rattle.ntfe_model.specs.declared.nogood.Fold.{Fold}
 use Rattle.strict_solver.specs.Rows.{AreNarrow, IsWideRow}

@@ -1,11 +1,10 @@
-use Rattle.std.proofs.Common.{◌≡◌, ℕ, ◌+◌, ◌∙◌, sym, ap, subst, arith, pos, length, Some}
-use Rattle.std.specs.Prelude.{slice_get, vec_len}
-use Rattle.ntfe_model.specs.Solver.{Line, coefficient_at}
-use Rattle.strict_solver.specs.declared.place.Place.{Place}
+use Rattle.std.proofs.Common.{◌≡◌, ℕ, ◌+◌, ◌∙◌, sym, ap, arith, Some}
+use Rattle.std.specs.Prelude.{slice_get}
+use Rattle.ntfe_model.specs.Solver.{coefficient_at}
 use Rattle.strict_solver.specs.declared.place.Place.TheVariants.{Row, Column}
 use Rattle.strict_solver.specs.Rows.{line_in, number}
 use Rattle.strict_solver.specs.Grids.{row_at}
-use Rattle.strict_solver.proofs.Elimination.{from_place, at_place, same_place}
+use Rattle.strict_solver.proofs.Elimination.{from_place, at_place}
 use Rattle.strict_solver.proofs.Placing.{basic_row, other_column, coefficient_there}
 use Rattle.strict_solver.proofs.grid.Grid.pivot.Goals as goal
 use Rattle.strict_solver.proofs.grid.Grid.pivot.Goals.{Start}

@@ -1,8 +1,7 @@
-use Rattle.std.proofs.Common.{◌≡◌, ℕ, ◌+◌, ◌*◌, ◌^◌, ◌<◌, ◌≤◌, ◌∙◌, sym, ap, subst, arith, ℤ, pos, ◌<ℤ◌, unsigned_abs, length, get_or, Some, None}
+use Rattle.std.proofs.Common.{◌≡◌, ◌+◌, ◌*◌, ◌^◌, ◌<◌, ◌≤◌, ◌∙◌, sym, ap, subst, arith, pos, ◌<ℤ◌, unsigned_abs, length, Some}
 use Rattle.std.specs.Prelude.{slice_get}
-use Rattle.strict_solver.specs.declared.place.Place.{Place}
 use Rattle.strict_solver.specs.declared.place.Place.TheVariants.{Row, Column}
-use Rattle.strict_solver.specs.Rows.{number, IsLowRow}
+use Rattle.strict_solver.specs.Rows.{IsLowRow}
 use Rattle.strict_solver.specs.Grids.{row_at}
 use Rattle.strict_solver.specs.Scales.{scale_next, common_multiple, reduced_denominator}
 use Rattle.strict_solver.proofs.Elimination.{at_place}

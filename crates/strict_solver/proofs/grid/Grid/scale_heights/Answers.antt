@@ -1,6 +1,5 @@
-use Rattle.std.proofs.Common.{◌≡◌, ℕ, ◌+◌, ◌*◌, ◌/◌, ◌^◌, ◌<◌, ◌≤◌, ◌⊎◌, inl, inr, ◌∙◌, sym, ap, subst, arith, pow_mono, ℤ, pos, unsigned_abs, List, length, length-set, get_or, map, Some, None, to_z, of_z, w64}
+use Rattle.std.proofs.Common.{◌≡◌, ◌^◌, ◌<◌, ◌≤◌, ◌∙◌, sym, ap, subst, arith, pow_mono, ℤ, pos, unsigned_abs, List, length-set, get_or, Some, None, to_z, of_z, w64}
 use Rattle.std.specs.Int.{w128}
-use Rattle.std.proofs.lemmas.Int.{ints}
 use Rattle.std.proofs.lemmas.List.{same_lists, get_or_default}
 use Rattle.ntfe_model.specs.Solver.{first_wide}
 use Rattle.strict_solver.specs.Grids.{lines_of}

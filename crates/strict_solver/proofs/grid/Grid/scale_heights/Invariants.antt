@@ -1,4 +1,4 @@
-use Rattle.std.proofs.Common.{◌≡◌, ℕ, ◌<◌, ◌≤◌, ◌^◌, length, take, unsigned_abs}
+use Rattle.std.proofs.Common.{◌≡◌, ℕ, ◌<◌, ◌^◌, length, unsigned_abs}
 use Rattle.strict_solver.specs.Grids.{lines_of}
 use Rattle.strict_solver.specs.Rows.{number}
 use Rattle.strict_solver.specs.Scales.{heights_by}

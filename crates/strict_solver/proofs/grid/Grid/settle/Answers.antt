@@ -1,12 +1,11 @@
-use Rattle.std.proofs.Common.{◌≡◌, ℕ, ◌+◌, ◌-◌, ◌^◌, ◌<◌, ◌≤◌, ◌∙◌, min, refl, sym, ap, subst, arith, ℤ, pos, List, length, Some, None, Option, to_z, of_z}
+use Rattle.std.proofs.Common.{◌≡◌, ℕ, ◌∙◌, sym, ap, subst, arith, ℤ, List, Option, to_z, of_z}
 use Rattle.std.specs.Int.{w128}
 use Rattle.std.proofs.lemmas.Int.{ints}
 use Rattle.ntfe_model.specs.Solver.{Line, first_negative, first_entering, IsWideTable}
-use Rattle.strict_solver.specs.declared.grid.Grid.{Grid}
-use Rattle.strict_solver.specs.Grids.{lines_of, IsGrid, HasSameSize, IsPivotable}
+use Rattle.strict_solver.specs.Grids.{lines_of}
 use Rattle.strict_solver.proofs.Moves.{first_slack-found}
 use Rattle.strict_solver.proofs.Steps.{move-pivotable}
-use Rattle.strict_solver.proofs.Running.{wider_grid, grid_length, grid_narrow, settled_feasible, settled_infeasible, move_more, move_wide, still_loaded, one_less, same_size, same_size_next, IsMovingGrid}
+use Rattle.strict_solver.proofs.Running.{wider_grid, grid_length, grid_narrow, settled_feasible, settled_infeasible, move_more, move_wide, still_loaded, one_less, same_size, same_size_next}
 use Rattle.strict_solver.proofs.grid.Grid.settle.Goals as goal
 
 leaving_is : (n m : ℕ) (s : List (Option Line)) (o : Option ℕ) → n ≡ m → o ≡ first_negative n s → o ≡ first_negative m s

@@ -1,16 +1,14 @@
-use Rattle.std.proofs.Common.{◌≡◌, ◌≢◌, ℕ, ◌+◌, ◌-◌, ◌*◌, ◌<◌, ◌≤◌, ◌⊎◌, inl, inr, ◌∙◌, refl, sym, ap, subst, arith, ℤ, pos, List, length, get_or, Some, Option}
+use Rattle.std.proofs.Common.{◌≡◌, ◌≢◌, ℕ, ◌+◌, ◌<◌, ◌⊎◌, inl, inr, ◌∙◌, refl, sym, ap, subst, arith, ℤ, pos, List, length, get_or, Some}
 use Rattle.std.specs.Prelude.{slice_get}
-use Rattle.std.proofs.lemmas.List.{get_or_default}
 use Rattle.ntfe_model.specs.declared.nogood.Fold.{Fold}
 use Rattle.ntfe_model.specs.Solver.{first_wide, line_numbers}
 use Rattle.strict_solver.specs.declared.place.Place.{Place}
-use Rattle.strict_solver.specs.declared.grid.Grid.{Grid}
-use Rattle.strict_solver.specs.Rows.{AreNarrow, IsWideRow, PlacesWithin, line_in}
-use Rattle.strict_solver.specs.Grids.{row_at, HasSameRoom}
+use Rattle.strict_solver.specs.Rows.{AreNarrow, PlacesWithin, line_in}
+use Rattle.strict_solver.specs.Grids.{row_at}
 use Rattle.strict_solver.specs.Starts.{IsFoldOver, IsStartPlacing, IsStartRow}
-use Rattle.strict_solver.proofs.Elimination.{at_place, from_place, same_place, wide_answer}
+use Rattle.strict_solver.proofs.Elimination.{at_place, same_place, wide_answer}
 use Rattle.strict_solver.proofs.PlacingAll.{start_placing}
-use Rattle.strict_solver.proofs.Opening.{IsOpening, opened_grid, opened_stands, opened_wide}
+use Rattle.strict_solver.proofs.Opening.{opened_grid, opened_stands, opened_wide}
 use Rattle.strict_solver.proofs.grid.Grid.start.Goals as goal
 
 abbrev no_fold : Fold

@@ -1,4 +1,4 @@
-use Rattle.std.proofs.Common.{◌≡◌, ◌≢◌, ℕ, ◌+◌, ◌-◌, ◌*◌, ◌≤◌, ◌∙◌, sym, ap, arith, ℤ, List, length}
+use Rattle.std.proofs.Common.{◌≡◌, ◌+◌, ◌-◌, ◌*◌, ◌≤◌, ◌∙◌, ap, arith, ℤ, List, length}
 use borrow.Rule.Slice.PartMut.{put_mid}
 use Rattle.strict_solver.specs.Grids.{row_at}
 use Rattle.strict_solver.proofs.Parts.{lent_back, put_length, row_elsewhere, row_length}

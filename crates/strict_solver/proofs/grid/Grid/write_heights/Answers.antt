@@ -1,4 +1,4 @@
-use Rattle.std.proofs.Common.{◌≡◌, sym, ap, ◌∙◌, arith, ℤ, Some, to_z, of_z}
+use Rattle.std.proofs.Common.{◌≡◌, sym, ap, ◌∙◌, arith, Some, to_z, of_z}
 use Rattle.std.specs.Int.{w128}
 use Rattle.std.proofs.lemmas.Int.{ints}
 use Rattle.strict_solver.specs.Grids.{lines_of}

@@ -1,8 +1,6 @@
-use Rattle.std.proofs.Common.{◌≡◌, ℕ, ◌+◌, ◌≤◌, ◌++◌, ◌∷◌, [], ◌∙◌, sym, ap, subst, arith, ℤ, pos, int_lt, length, List, Some, None, to_z, of_z, w64}
-use Rattle.std.specs.Prelude.{slice_index_or, vec_capacity}
+use Rattle.std.proofs.Common.{◌≡◌, ℕ, ◌+◌, ◌++◌, ◌∷◌, [], ◌∙◌, sym, ap, arith, ℤ, pos, int_lt, length, List}
+use Rattle.std.specs.Prelude.{vec_capacity}
 use Rattle.std.proofs.lemmas.List.{length_push}
-use Rattle.ntfe_model.specs.Solver.{Line, multipliers_of}
-use Rattle.strict_solver.specs.Grids.{lines_of}
 use Rattle.strict_solver.proofs.Rows.{unwrap64}
 use Rattle.strict_solver.proofs.Multipliers.{more_kept, more_left}
 use Rattle.strict_solver.proofs.grid.Grid.write_multipliers.Goals as goal

@@ -1,6 +1,4 @@
-use Rattle.std.proofs.Common.{rules, ◌≡◌, ◌<◌, ◌≤◌, ℕ, ℤ, List, pos, map, length, w8}
-use Rattle.ntfe_model.specs.Solver.{fold_row}
-use Rattle.strict_solver.specs.Solving.{HasSolved, HasMeaning, answer_of}
+use Rattle.std.proofs.Common.{rules}
 use Rattle.strict_solver.proofs.Meaning.{meaning_of}
 use Rattle.strict_solver.proofs.tableau.Tableau.solve.Goals as goal
 
