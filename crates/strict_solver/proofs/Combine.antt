@@ -1,0 +1,70 @@
+-- A row in lowest form after the pivot row was put in.
+use Rattle.std.proofs.Common.{◌≡◌, ℕ, zero, suc, ◌*◌, ◌<◌, ◌≤◌, refl, sym, ap, ◌∙◌, subst, arith, ℤ, pos, negsuc, ◌+ℤ◌, ◌*ℤ◌, ◌<ℤ◌, List, [], ◌∷◌, length, set, get_or-set_other, unsigned_abs}
+use Rattle.std.specs.Int.{◌∣◌}
+use Rattle.std.proofs.lemmas.Int.{ints, unsigned_abs-mul}
+use Rattle.std.proofs.lemmas.Nat.Gcd.{le_of_dvd}
+use Rattle.std.proofs.Math.Nat.{pos_of_dvd_of_pos, mul-dvd-mul_left, dvd_of_mul-dvd-mul_left, eq-one_of_dvd-one}
+use Rattle.std.proofs.lemmas.List.{set-get_or}
+use Rattle.ntfe_nums.proofs.Ring.{ring, product_zero}
+use Rattle.ntfe_nums.proofs.Ring.Expression.{var, num, plus, times}
+use Rattle.strict_solver.specs.Rows.{number, IsCommonDivisor, IsCombination}
+
+positive_product : (a b : ℤ) → pos 0 <ℤ a → pos 0 <ℤ b → 0 < unsigned_abs (a *ℤ b)
+positive_product (pos (suc m)) (pos (suc n)) h i = let s : 0 < suc m * suc n = omega arith in s
+positive_product (pos zero) b h i = absurd (omega (arith, ints))
+positive_product (pos (suc m)) (pos zero) h i = absurd (omega (arith, ints))
+positive_product (pos (suc m)) (negsuc n) h i = absurd (omega (arith, ints))
+positive_product (negsuc m) b h i = absurd (omega (arith, ints))
+
+abbrev pub AreSums : List ℤ → ℕ → List ℤ → ℤ → List ℤ → Type 0
+AreSums row p piv den raw = (j : ℕ) → number raw j ≡ number (set row p (pos 0)) j *ℤ den +ℤ number row p *ℤ number piv j
+
+-- the first number is not 0, so the divisor is positive and no greater
+pub first_some : (row : List ℤ) (p : ℕ) (piv : List ℤ) (den : ℤ) (raw : List ℤ) → 2 ≤ p → pos 0 <ℤ number row 0 → pos 0 <ℤ den → number piv 0 ≡ pos 0 → AreSums row p piv den raw → 0 < unsigned_abs (number raw 0)
+first_some row p piv den raw l h i z s =
+    let first : number (set row p (pos 0)) 0 ≡ number row 0 = get_or-set_other row p 0 (pos 0) (pos 0) (λ e. omega arith) in
+    let value : number raw 0 ≡ number row 0 *ℤ den +ℤ pos 0 =
+    s 0 ∙ (λ t. first t *ℤ den +ℤ number row p *ℤ z t) ∙ ap (λ y. number row 0 *ℤ den +ℤ y) (product_zero (number row p)) in
+    let same : number raw 0 ≡ number row 0 *ℤ den = value ∙ plain (number row 0 *ℤ den) in
+    subst (λ y. 0 < unsigned_abs y) (sym same) (positive_product (number row 0) den h i)
+  where
+    plain : (z : ℤ) → z +ℤ pos 0 ≡ z
+    plain z = omega (arith, ints)
+
+pub divisor_positive : (raw : List ℤ) (g : ℕ) → 0 < unsigned_abs (number raw 0) → IsCommonDivisor raw g → 0 < g
+divisor_positive raw g h d = pos_of_dvd_of_pos (d.divides 0) h
+
+pub divisor_small : (raw : List ℤ) (g : ℕ) → 0 < unsigned_abs (number raw 0) → IsCommonDivisor raw g → g ≤ unsigned_abs (number raw 0)
+divisor_small raw g h d = le_of_dvd h (d.divides 0)
+
+pub combined : (row : List ℤ) (p : ℕ) (piv : List ℤ) (den : ℤ) (raw new : List ℤ) (g : ℕ) → AreSums row p piv den raw → IsCommonDivisor raw g → 0 < g → length new ≡ length row
+    → ((j : ℕ) → pos g *ℤ number new j ≡ number raw j) → IsCombination row p piv den new
+combined row p piv den raw new g s d positive count each = record {
+  count = count;
+  k = g;
+  factor = positive;
+  same = λ j. sym (s j) ∙ sym (each j);
+  lowest = λ m all. eq-one_of_dvd-one (dvd_of_mul-dvd-mul_left m positive (one_more m (d.greatest (g * m) (λ k. scaled m k (all k)))));
+}
+  where
+    one_more : (m : ℕ) → (g * m) ∣ g → (g * m) ∣ (g * 1)
+    one_more m h = let e : g ≡ g * 1 = omega arith in subst (λ n. (g * m) ∣ n) e h
+
+    scaled : (m k : ℕ) → m ∣ unsigned_abs (number new k) → (g * m) ∣ unsigned_abs (number raw k)
+    scaled m k h =
+        let e : unsigned_abs (number raw k) ≡ g * unsigned_abs (number new k) = ap unsigned_abs (sym (each k)) ∙ unsigned_abs-mul (pos g) (number new k) in
+        subst (λ n. (g * m) ∣ n) (sym e) (mul-dvd-mul_left m g h)
+
+-- a row without the column's variable stays
+pub combination_zero : (row : List ℤ) (p : ℕ) (piv : List ℤ) (den : ℤ) → pos 0 <ℤ den → number row p ≡ pos 0 → ((m : ℕ) → ((j : ℕ) → m ∣ unsigned_abs (number row j)) → m ≡ 1) → IsCombination row p piv den row
+combination_zero row p piv (pos k) h e l = record {
+  count = refl;
+  k = k;
+  factor = omega (arith, ints);
+  same = λ j. (λ t. zeroed j t *ℤ pos k +ℤ e t *ℤ number piv j) ∙ ring (number row j ∷ pos k ∷ number piv j ∷ []) (plus (times (var 0) (var 1)) (times (num (pos 0)) (var 2))) (times (var 1) (var 0)) refl;
+  lowest = l;
+}
+  where
+    zeroed : (j : ℕ) → number (set row p (pos 0)) j ≡ number row j
+    zeroed j = ap (λ r. number r j) (ap (set row p) (sym e) ∙ set-get_or row p (pos 0))
+combination_zero row p piv (negsuc k) h e l = absurd (omega (arith, ints))

@@ -1,0 +1,312 @@
+-- A pivot keeps the solutions of the rows.
+--     IsTable s               each row has a coefficient for each variable, a positive d, and 0 at the basic variables
+--     Holds one values s      all rows hold at these values, where `one` stands for the number 1
+--     pivot-table, pivot-holds, pivot-held      IsTable stays, and the rows after hold exactly where the rows before do
+--     run-table, run-length, run-holds, run-held      the same of a run
+use Rattle.std.proofs.Common.{◌≡◌, ◌≢◌, ℕ, zero, suc, ◌<◌, ◌≤◌, ◌⊎◌, inl, inr, min, refl, sym, ap, ◌∙◌, subst, arith, ℤ, pos, ◌+ℤ◌, ◌*ℤ◌, neg_ℤ, ◌<ℤ◌, List, [], ◌∷◌, map, length, get_or, set, length-set, get_or-set_same, get_or-set_other, Some, None, Option}
+use Rattle.std.specs.Prelude.{zip, slice_get}
+use Rattle.std.proofs.lemmas.List.{get_or-map}
+use Rattle.std.proofs.lemmas.Slice.Zip.{length-zip, get_or-zip}
+use Rattle.ntfe_nums.specs.Vectors.{sign}
+use Rattle.ntfe_model.specs.Solver.{Line, Table, coefficient_at, solved_for, with_put_in, IsReduced, IsNextLine, IsPivot, IsRun}
+use Rattle.ntfe_nums.proofs.Ring.{product_zero, zero_product}
+use Rattle.strict_solver.proofs.Moves.{IsGone}
+use Rattle.strict_solver.proofs.Forms.{LineHolds, length_mapped, zero_factor, reduced_parts, solved_for-holds, reduced-holds, with_put_in-holds, pos_some}
+
+pub record IsLineOf (s : List (Option Line)) (r : Line) : Type 0 where
+  pub count : length r.coefficients ≡ length s
+  pub positive : pos 0 <ℤ r.d
+  pub zeros : (b : ℕ) (q : Line) → get_or s b None ≡ Some q → coefficient_at r b ≡ pos 0
+
+abbrev pub IsTable : List (Option Line) → Type 0
+IsTable s = (z : ℕ) (r : Line) → get_or s z None ≡ Some r → IsLineOf s r
+
+abbrev pub Holds : ℤ → List ℤ → List (Option Line) → Type 0
+Holds one vs s = (z : ℕ) (r : Line) → get_or s z None ≡ Some r → LineHolds one vs z r
+
+pub in_table : (s : List (Option Line)) (z : ℕ) (r : Line) → get_or s z None ≡ Some r → z < length s
+in_table [] z r e = cc
+in_table (o ∷ s) zero r e = omega arith
+in_table (o ∷ s) (suc z) r e = let h = in_table s z r e in omega arith
+
+pub get_here : (s : List (Option Line)) (z : ℕ) (o : Option Line) → slice_get s z ≡ Some o → (get_or s z None ≡ o) × (z < length s)
+get_here [] z o e = cc
+get_here (p ∷ s) zero o e = (cc, omega arith)
+get_here (p ∷ s) (suc z) o e = let h = get_here s z o e in (h.0, omega arith)
+
+pub get_there : (s : List (Option Line)) (z : ℕ) (r : Line) → get_or s z None ≡ Some r → slice_get s z ≡ Some (Some r)
+get_there [] z r e = cc
+get_there (p ∷ s) zero r e = ap Some e
+get_there (p ∷ s) (suc z) r e = get_there s z r e
+
+abbrev line_or : Line → Option Line → Line
+line_or r None = r
+line_or r (Some q) = q
+
+same_line : (o : Option Line) (q r : Line) → o ≡ Some q → o ≡ Some r → q ≡ r
+same_line o q r e f = ap (line_or q) (sym e ∙ f)
+
+-- a coefficient of the row that is put in
+pub coefficient-put_in : (q m : Line) (y b : ℕ) → b < length q.coefficients → b < length m.coefficients
+    → coefficient_at (with_put_in q y m) b ≡ get_or (set q.coefficients y (pos 0)) b (pos 0) *ℤ m.d +ℤ coefficient_at q y *ℤ coefficient_at m b
+coefficient-put_in q m y b lq lm =
+    let left : List ℤ = set q.coefficients y (pos 0) in
+    let ll : length left ≡ length q.coefficients = length-set q.coefficients y (pos 0) in
+    let g : ℤ × ℤ → ℤ = λ e. e.0 *ℤ m.d +ℤ coefficient_at q y *ℤ e.1 in
+    let d : ℤ × ℤ = (pos 0, pos 0) in
+    let lz : length (zip left m.coefficients) ≡ min (length left) (length m.coefficients) = length-zip left m.coefficients in
+    get_or-map g (zip left m.coefficients) b d (pos 0) (least lz ll lq lm)
+    ∙ ap g (get_or-zip left m.coefficients b d (omega arith) lm)
+  where
+    least : {k j n l : ℕ} → k ≡ min j l → j ≡ n → b < n → b < l → b < k
+    least e f h i = grind arith
+
+zero_set : (es : List ℤ) (y b : ℕ) → ((b ≡ y) × (y < length es)) ⊎ (get_or es b (pos 0) ≡ pos 0) → get_or (set es y (pos 0)) b (pos 0) ≡ pos 0
+zero_set es y b (inl h) = let P : ℕ → Type 0 = λ k. get_or (set es y (pos 0)) k (pos 0) ≡ pos 0 in subst P (sym h.0) (get_or-set_same es y (pos 0) (pos 0) h.1)
+zero_set [] y b (inr h) = refl
+zero_set (e ∷ es) zero zero (inr h) = refl
+zero_set (e ∷ es) zero (suc b) (inr h) = h
+zero_set (e ∷ es) (suc y) zero (inr h) = h
+zero_set (e ∷ es) (suc y) (suc b) (inr h) = zero_set es y b (inr h)
+
+zero_sum : (d f a b : ℤ) → a ≡ pos 0 → b ≡ pos 0 → a *ℤ d +ℤ f *ℤ b ≡ pos 0
+zero_sum d f a b e g = (λ i. e i *ℤ d +ℤ f *ℤ g i) ∙ (λ i. zero_product d i +ℤ product_zero f i)
+
+reduced-coefficient : (raw r : Line) (h : IsReduced raw r) (b : ℕ) → b < length r.coefficients → coefficient_at raw b ≡ pos 0 → coefficient_at r b ≡ pos 0
+reduced-coefficient raw r h b l e =
+    let p = reduced_parts raw r h in
+    zero_factor (pos h.k) _ (pos_some h.k h.factor) (sym (get_or-map (λ z. pos h.k *ℤ z) r.coefficients b (pos 0) (pos 0) l) ∙ sym (ap (λ es. get_or es b (pos 0)) p.2) ∙ e)
+
+reduced-count : (raw r : Line) (h : IsReduced raw r) → length r.coefficients ≡ length raw.coefficients
+reduced-count raw r h = sym (length_mapped (λ e. pos h.k *ℤ e) r.coefficients) ∙ sym (ap length (reduced_parts raw r h).2)
+
+solved-count : (r : Line) (x y : ℕ) → length (solved_for r x y).coefficients ≡ length r.coefficients
+solved-count r x y =
+    let s = sign (coefficient_at r y) in
+    let first : List ℤ = map (λ e. neg_ℤ (s *ℤ e)) r.coefficients in
+    length-set (set first y (pos 0)) x (s *ℤ r.d) ∙ length-set first y (pos 0) ∙ length_mapped (λ e. neg_ℤ (s *ℤ e)) r.coefficients
+
+-- a coefficient of the solved row at another variable than x
+solved-coefficient : (r : Line) (x y b : ℕ) → b ≢ x → b < length r.coefficients → (b ≡ y) ⊎ (coefficient_at r b ≡ pos 0) → coefficient_at (solved_for r x y) b ≡ pos 0
+solved-coefficient r x y b n l h =
+    let s = sign (coefficient_at r y) in
+    let first : List ℤ = map (λ e. neg_ℤ (s *ℤ e)) r.coefficients in
+    let lf : length first ≡ length r.coefficients = length_mapped (λ e. neg_ℤ (s *ℤ e)) r.coefficients in
+    get_or-set_other (set first y (pos 0)) x b (s *ℤ r.d) (pos 0) n ∙ zero_set first y b (by s lf h)
+  where
+    by : (s : ℤ) → length (map (λ e. neg_ℤ (s *ℤ e)) r.coefficients) ≡ length r.coefficients → (b ≡ y) ⊎ (coefficient_at r b ≡ pos 0)
+        → ((b ≡ y) × (y < length (map (λ e. neg_ℤ (s *ℤ e)) r.coefficients))) ⊎ (get_or (map (λ e. neg_ℤ (s *ℤ e)) r.coefficients) b (pos 0) ≡ pos 0)
+    by s lf (inl e) = inl (e, omega arith)
+    by s lf (inr e) = inr (get_or-map (λ e. neg_ℤ (s *ℤ e)) r.coefficients b (pos 0) (pos 0) l ∙ ap (λ e. neg_ℤ (s *ℤ e)) e ∙ ap neg_ℤ (product_zero s))
+
+length_pairs : (g : ℤ × ℤ → ℤ) (es : List (ℤ × ℤ)) → length (map g es) ≡ length es
+length_pairs g [] = refl
+length_pairs g (e ∷ es) = ap suc (length_pairs g es)
+
+pub length-zipped : (g : ℤ × ℤ → ℤ) (n : ℕ) (xs ys : List ℤ) → length xs ≡ n → length ys ≡ n → length (map g (zip xs ys)) ≡ n
+length-zipped g n xs ys e f = length_pairs g (zip xs ys) ∙ length-zip xs ys ∙ least (length xs) (length ys) e f
+  where
+    least : (j k : ℕ) → j ≡ n → k ≡ n → min j k ≡ n
+    least j k e f = grind arith
+
+module _ (x y : ℕ) (s t : List (Option Line)) (p : IsPivot x y s t) where
+  pub pivot-leaving : (get_or s x None ≡ Some p.row) × (x < length s)
+  pivot-leaving = get_here s x (Some p.row) p.is
+
+  pub pivot-entering : (get_or s y None ≡ None) × (y < length s)
+  pivot-entering = get_here s y None p.other
+
+  pub pivot-apart : x ≢ y
+  pivot-apart e = let P : ℕ → Type 0 = λ k. get_or s k None ≡ Some p.row in let a = subst P e pivot-leaving.0 in let b = pivot-entering.0 in cc
+
+  -- where y was not, its new row is
+  pub pivot-new : get_or t y None ≡ Some p.new
+  pivot-new = by (p.lines y pivot-entering.1)
+    where
+      by : IsNextLine x y p.new y (get_or s y None) (get_or t y None) → get_or t y None ≡ Some p.new
+      by (inl h) = absurd (pivot-apart (sym h.0))
+      by (inr (inl h)) = h.1
+      by (inr (inr (inl h))) = absurd (h.1 refl)
+      by (inr (inr (inr h))) = absurd (h.3 refl)
+
+  pub pivot-left : get_or t x None ≡ None
+  pivot-left = by (p.lines x pivot-leaving.1)
+    where
+      by : IsNextLine x y p.new x (get_or s x None) (get_or t x None) → get_or t x None ≡ None
+      by (inl h) = h.1
+      by (inr (inl h)) = absurd (pivot-apart h.0)
+      by (inr (inr (inl h))) = h.3
+      by (inr (inr (inr h))) = absurd (h.2 refl)
+
+  -- another variable is basic after as before
+  pub pivot-basic : (b : ℕ) (r : Line) → get_or t b None ≡ Some r → (b ≢ x) × ((b ≡ y) ⊎ ((q : Line) × (get_or s b None ≡ Some q)))
+  pivot-basic b r e = by (p.lines b (let h = in_table t b r e in let l = p.length_same in omega arith))
+    where
+      by : IsNextLine x y p.new b (get_or s b None) (get_or t b None) → (b ≢ x) × ((b ≡ y) ⊎ ((q : Line) × (get_or s b None ≡ Some q)))
+      by (inl h) = let g = h.1 in cc
+      by (inr (inl h)) = ((λ g. pivot-apart (sym g ∙ h.0)), inl h.0)
+      by (inr (inr (inl h))) = let g = h.3 in cc
+      by (inr (inr (inr h))) = (h.2, inr (h.0, h.4))
+
+  -- a basic variable that does not leave stays
+  pub pivot-kept : (b : ℕ) (q : Line) → get_or s b None ≡ Some q → b ≢ x → (r : Line) × (get_or t b None ≡ Some r)
+  pivot-kept b q e n = by (p.lines b (in_table s b q e))
+    where
+      by : IsNextLine x y p.new b (get_or s b None) (get_or t b None) → (r : Line) × (get_or t b None ≡ Some r)
+      by (inl h) = absurd (n h.0)
+      by (inr (inl h)) = (p.new, h.1)
+      by (inr (inr (inl h))) = let g = h.2 in cc
+      by (inr (inr (inr h))) = (h.1, h.5)
+
+  module _ (w : IsTable s) where
+    new-count : length p.new.coefficients ≡ length s
+    new-count = reduced-count _ p.new p.solved ∙ solved-count p.row x y ∙ (w x p.row pivot-leaving.0).count
+
+    new-zeros : (b : ℕ) (r : Line) → get_or t b None ≡ Some r → coefficient_at p.new b ≡ pos 0
+    new-zeros b r e =
+        let l = in_table t b r e in
+        let k = p.length_same in
+        let c = new-count in
+        let n = (w x p.row pivot-leaving.0).count in
+        let h = pivot-basic b r e in
+        reduced-coefficient _ p.new p.solved b (omega arith) (solved-coefficient p.row x y b h.0 (omega arith) (by h.1))
+      where
+        by : (b ≡ y) ⊎ ((q : Line) × (get_or s b None ≡ Some q)) → (b ≡ y) ⊎ (coefficient_at p.row b ≡ pos 0)
+        by (inl h) = inl h
+        by (inr h) = inr ((w x p.row pivot-leaving.0).zeros b h.0 h.1)
+
+    new-line : IsLineOf t p.new
+    new-line = record { count = new-count ∙ sym p.length_same; positive = p.solved.positive; zeros = new-zeros }
+
+    put_in-count : (q : Line) → length q.coefficients ≡ length s → length (with_put_in q y p.new).coefficients ≡ length s
+    put_in-count q l = length-zipped (λ e. e.0 *ℤ p.new.d +ℤ coefficient_at q y *ℤ e.1) (length s) (set q.coefficients y (pos 0)) p.new.coefficients (length-set q.coefficients y (pos 0) ∙ l) new-count
+
+    other-line : (q r : Line) → IsLineOf s q → IsReduced (with_put_in q y p.new) r → IsLineOf t r
+    other-line q r i h = record {
+      count = reduced-count _ r h ∙ put_in-count q i.count ∙ sym p.length_same;
+      positive = h.positive;
+      zeros = zeros;
+    }
+      where
+        zeros : (b : ℕ) (o : Line) → get_or t b None ≡ Some o → coefficient_at r b ≡ pos 0
+        zeros b o e =
+            let l = in_table t b o e in
+            let k = p.length_same in
+            let c = reduced-count _ r h ∙ put_in-count q i.count in
+            let cn = new-count in
+            let ci = i.count in
+            reduced-coefficient _ r h b (omega arith)
+            (coefficient-put_in q p.new y b (omega arith) (omega arith)
+            ∙ zero_sum p.new.d (coefficient_at q y) _ _ (zero_set q.coefficients y b (by (pivot-basic b o e).1)) (new-zeros b o e))
+          where
+            by : (b ≡ y) ⊎ ((q' : Line) × (get_or s b None ≡ Some q')) → ((b ≡ y) × (y < length q.coefficients)) ⊎ (get_or q.coefficients b (pos 0) ≡ pos 0)
+            by (inl g) = inl (g, (let a = pivot-entering.1 in let c = i.count in omega arith))
+            by (inr g) = inr (i.zeros b g.0 g.1)
+
+    pub pivot-table : IsTable t
+    pivot-table z r e = by (p.lines z (let h = in_table t z r e in let l = p.length_same in omega arith))
+      where
+        by : IsNextLine x y p.new z (get_or s z None) (get_or t z None) → IsLineOf t r
+        by (inl h) = let g = h.1 in cc
+        by (inr (inl h)) = let P : Line → Type 0 = λ k. IsLineOf t k in subst P (same_line _ p.new r h.1 e) new-line
+        by (inr (inr (inl h))) = let g = h.3 in cc
+        by (inr (inr (inr h))) = let P : Line → Type 0 = λ k. IsLineOf t k in subst P (same_line _ h.1 r h.5 e) (other-line h.0 h.1 (w z h.0 h.4) h.6)
+
+    -- a height that no slack has, and that is not basic, stays so
+    pub pivot-gone : (columns k : ℕ) → k < columns → columns ≤ x → k ≢ y → k < length s → IsGone columns s k → IsGone columns t k
+    pivot-gone columns k lk cx cy ls g z r cz lz e = by (p.lines z (let l = p.length_same in omega arith))
+      where
+        apart : {j : ℕ} → columns ≤ j → k ≢ j
+        apart {j} c h = omega arith
+
+        new-gone : coefficient_at p.new k ≡ pos 0
+        new-gone =
+            let c = new-count in
+            let n = (w x p.row pivot-leaving.0).count in
+            reduced-coefficient _ p.new p.solved k (omega arith) (solved-coefficient p.row x y k (λ h. apart cx h) (omega arith) (inr (g x p.row cx pivot-leaving.1 pivot-leaving.0)))
+
+        other-gone : (q o : Line) → get_or s z None ≡ Some q → IsReduced (with_put_in q y p.new) o → coefficient_at o k ≡ pos 0
+        other-gone q o f h =
+            let i = w z q f in
+            let ci = i.count in
+            let c = reduced-count _ o h ∙ put_in-count q i.count in
+            let cn = new-count in
+            reduced-coefficient _ o h k (omega arith)
+            (coefficient-put_in q p.new y k (omega arith) (omega arith)
+            ∙ zero_sum p.new.d (coefficient_at q y) _ _ (zero_set q.coefficients y k (inr (g z q cz (in_table s z q f) f))) new-gone)
+
+        by : IsNextLine x y p.new z (get_or s z None) (get_or t z None) → coefficient_at r k ≡ pos 0
+        by (inl h) = let f = h.1 in cc
+        by (inr (inl h)) = ap (λ q. coefficient_at q k) (sym (same_line _ p.new r h.1 e)) ∙ new-gone
+        by (inr (inr (inl h))) = let f = h.3 in cc
+        by (inr (inr (inr h))) = ap (λ q. coefficient_at q k) (sym (same_line _ h.1 r h.5 e)) ∙ other-gone h.0 h.1 h.4 h.6
+
+    module _ (one : ℤ) (vs : List ℤ) (l : length vs ≡ length s) where
+      in_values : (k : ℕ) → k < length s → k < length vs
+      in_values k h = omega arith
+
+      row-holds : (LineHolds one vs x p.row → LineHolds one vs y p.new) × (LineHolds one vs y p.new → LineHolds one vs x p.row)
+      row-holds =
+          let i = w x p.row pivot-leaving.0 in
+          let a = solved_for-holds one vs p.row x y pivot-apart (in_values x pivot-leaving.1) (in_values y pivot-entering.1) (i.count ∙ sym l) (i.zeros x p.row pivot-leaving.0) p.not_zero in
+          let b = reduced-holds one vs y _ p.new p.solved in
+          ((λ h. b.0 (a.0 h)), (λ h. a.1 (b.1 h)))
+
+      other-holds : (z : ℕ) (q r : Line) → get_or s z None ≡ Some q → IsReduced (with_put_in q y p.new) r → LineHolds one vs y p.new
+          → (LineHolds one vs z q → LineHolds one vs z r) × (LineHolds one vs z r → LineHolds one vs z q)
+      other-holds z q r e h n =
+          let a = with_put_in-holds one vs q p.new z y (in_values y pivot-entering.1) ((w z q e).count ∙ sym l) (new-count ∙ sym l) p.solved.positive n in
+          let b = reduced-holds one vs z _ r h in
+          ((λ g. b.0 (a.0 g)), (λ g. a.1 (b.1 g)))
+
+      -- where the rows before hold, those after do
+      pub pivot-holds : Holds one vs s → Holds one vs t
+      pivot-holds all z r e = by (p.lines z (let h = in_table t z r e in let k = p.length_same in omega arith))
+        where
+          n : LineHolds one vs y p.new
+          n = row-holds.0 (all x p.row pivot-leaving.0)
+
+          by : IsNextLine x y p.new z (get_or s z None) (get_or t z None) → LineHolds one vs z r
+          by (inl h) = let g = h.1 in cc
+          by (inr (inl h)) =
+              let P : Line → Type 0 = λ k. LineHolds one vs z k in
+              let Q : ℕ → Type 0 = λ k. LineHolds one vs k p.new in
+              subst P (same_line _ p.new r h.1 e) (subst Q (sym h.0) n)
+          by (inr (inr (inl h))) = let g = h.3 in cc
+          by (inr (inr (inr h))) = let P : Line → Type 0 = λ k. LineHolds one vs z k in subst P (same_line _ h.1 r h.5 e) ((other-holds z h.0 h.1 h.4 h.6 n).0 (all z h.0 h.4))
+
+      -- where the rows after hold, those before do
+      pub pivot-held : Holds one vs t → Holds one vs s
+      pivot-held all z q e = by (p.lines z (in_table s z q e))
+        where
+          n : LineHolds one vs y p.new
+          n = all y p.new pivot-new
+
+          by : IsNextLine x y p.new z (get_or s z None) (get_or t z None) → LineHolds one vs z q
+          by (inl h) =
+              let P : Line → Type 0 = λ k. LineHolds one vs z k in
+              let Q : ℕ → Type 0 = λ k. LineHolds one vs k p.row in
+              let R : ℕ → Type 0 = λ k. get_or s k None ≡ Some q in
+              subst P (same_line _ p.row q pivot-leaving.0 (subst R h.0 e)) (subst Q (sym h.0) (row-holds.1 n))
+          by (inr (inl h)) = let R : ℕ → Type 0 = λ k. get_or s k None ≡ Some q in let a = subst R h.0 e in let b = pivot-entering.0 in cc
+          by (inr (inr (inl h))) = let g = h.2 in cc
+          by (inr (inr (inr h))) = let P : Line → Type 0 = λ k. LineHolds one vs z k in subst P (same_line _ h.0 q h.4 e) ((other-holds z h.0 h.1 h.4 h.6 n).1 (all z h.1 h.5))
+
+-- ---- runs
+pub run-length : (columns : ℕ) (s : Table) (ts : List Table) (t : Table) → IsRun columns s ts t → length t.lines ≡ length s.lines
+run-length columns s [] t h = ap (λ (r : Table). length r.lines) (sym h)
+run-length columns s (r ∷ ts) t h = run-length columns r ts t h.1 ∙ h.0.3.length_same
+
+pub run-table : (columns : ℕ) (s : Table) (ts : List Table) (t : Table) → IsRun columns s ts t → IsTable s.lines → IsTable t.lines
+run-table columns s [] t h w = let P : Table → Type 0 = λ r. IsTable r.lines in subst P h w
+run-table columns s (r ∷ ts) t h w = run-table columns r ts t h.1 (pivot-table h.0.0 h.0.1 s.lines r.lines h.0.3 w)
+
+pub run-holds : (columns : ℕ) (s : Table) (ts : List Table) (t : Table) → IsRun columns s ts t → IsTable s.lines → (one : ℤ) (vs : List ℤ) → length vs ≡ length s.lines → Holds one vs s.lines → Holds one vs t.lines
+run-holds columns s [] t h w one vs l g = let P : Table → Type 0 = λ r. Holds one vs r.lines in subst P h g
+run-holds columns s (r ∷ ts) t h w one vs l g =
+    run-holds columns r ts t h.1 (pivot-table h.0.0 h.0.1 s.lines r.lines h.0.3 w) one vs (l ∙ sym h.0.3.length_same) (pivot-holds h.0.0 h.0.1 s.lines r.lines h.0.3 w one vs l g)
+
+pub run-held : (columns : ℕ) (s : Table) (ts : List Table) (t : Table) → IsRun columns s ts t → IsTable s.lines → (one : ℤ) (vs : List ℤ) → length vs ≡ length s.lines → Holds one vs t.lines → Holds one vs s.lines
+run-held columns s [] t h w one vs l g = let P : Table → Type 0 = λ r. Holds one vs r.lines in subst P (sym h) g
+run-held columns s (r ∷ ts) t h w one vs l g =
+    pivot-held h.0.0 h.0.1 s.lines r.lines h.0.3 w one vs l (run-held columns r ts t h.1 (pivot-table h.0.0 h.0.1 s.lines r.lines h.0.3 w) one vs (l ∙ sym h.0.3.length_same) g)
