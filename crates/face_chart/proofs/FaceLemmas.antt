@@ -20,7 +20,7 @@ use Rattle.ntfe_model.specs.declared.face.Face.{Face}
 use Rattle.ntfe_model.proofs.Listings.{listing_range}
 use Rattle.face_chart.specs.Tables.{patch, place_at, AreKnown}
 use Rattle.face_chart.proofs.PatchLemmas.{of_numbers, place_of, numbers_back}
-use Rattle.face_chart.proofs.UnitTriples.{AreApart}
+use Rattle.face_chart.specs.Steps.{AreApart}
 
 -- ---- the places
 
@@ -74,14 +74,14 @@ places_apart p xs l a b h k m e =
 
 -- ---- the numbers of a two-face
 
-pub face_read : (g : Shape) (fs : List Face) (f : ℕ) (x : Face) → fs ≡ g.faces → f < length fs → x ≡ get_or fs f x → x ≡ face_at g f
+face_read : (g : Shape) (fs : List Face) (f : ℕ) (x : Face) → fs ≡ g.faces → f < length fs → x ≡ get_or fs f x → x ≡ face_at g f
 face_read g fs f x e l q = get_or_read fs f x l q no_face ∙ ap (λ ys. get_or ys f no_face) e
 
 module _ (g : Shape) (s : IsShape g) (f : ℕ) (within : f < length g.faces) where
   face_is : IsFaceOf g.pair g.points (face_at g f)
   face_is = s.faces.sound f no_face within
 
-  pub numbers_known : AreKnown (face_at g f).points (places g.points)
+  numbers_known : AreKnown (face_at g f).points (places g.points)
   numbers_known =
       let xs = g.points in
       let ks = face_at g f in
@@ -90,7 +90,7 @@ module _ (g : Shape) (s : IsShape g) (f : ℕ) (within : f < length g.faces) whe
       (All-filter (λ m. is_tight (entry g.pair.dual ks.first) (place_of_point xs m) && is_tight (entry g.pair.dual ks.second) (place_of_point xs m)) P (range_with_len 1 (length xs))
       (All-weaker (λ m. (1 ≤ m) × (m < 1 + length xs)) P (λ m r. (r.0, (let t = r.1 in let e = length-map xs (λ (x : Point). x.place) in omega arith))) (range_with_len 1 (length xs)) (listing_range 1 (length xs)).sound))
 
-  pub numbers_rise : AllPairs (λ a b. a < b) (face_at g f).points
+  numbers_rise : AllPairs (λ a b. a < b) (face_at g f).points
   numbers_rise =
       let xs = g.points in
       let ks = face_at g f in
@@ -101,8 +101,24 @@ module _ (g : Shape) (s : IsShape g) (f : ℕ) (within : f < length g.faces) whe
   pub shape_small : All IsSmall (places g.points)
   shape_small = places_small g.pair g.points s.bounded.vertices.small s.points
 
-  pub patch_at_is : patch (face_at g f).points (places g.points) ≡ patch_at g f
+  patch_at_is : patch (face_at g f).points (places g.points) ≡ patch_at g f
   patch_at_is = patch_is g.points (face_at g f).points
+
+  -- what is made of the numbers of the two-face, as they are read, and of all places
+  pub patch_read : (fs : List Face) (x : Face) (ns ks : List ℕ) (vs : List Vector) (t : Patch) → fs ≡ g.faces → x ≡ get_or fs f x → ns ≡ (get_or fs f x).points → ks ≡ ns → vs ≡ places g.points → t ≡ patch ks vs → t ≡ patch_at g f
+  patch_read fs x ns ks vs t e q a b d p =
+      let l : f < length fs = (let m = ap length e in omega (arith, m, within)) in
+      p ∙ (λ i. patch ((b ∙ a ∙ ap (λ (y : Face). y.points) (sym q ∙ face_read g fs f x e l q)) i) (d i)) ∙ patch_at_is
+
+  pub known_read : (fs : List Face) (x : Face) (ns ks : List ℕ) (vs : List Vector) → fs ≡ g.faces → x ≡ get_or fs f x → ns ≡ (get_or fs f x).points → ks ≡ ns → vs ≡ places g.points → AreKnown ks vs
+  known_read fs x ns ks vs e q a b d =
+      let l : f < length fs = (let m = ap length e in omega (arith, m, within)) in
+      subst (λ (t : List ℕ × List Vector). AreKnown t.0 t.1) (λ i. (sym (b ∙ a ∙ ap (λ (y : Face). y.points) (sym q ∙ face_read g fs f x e l q)) i, sym d i)) numbers_known
+
+  pub patch_rises : AllPairs (λ a b. a < b) (spot_numbers (patch_at g f))
+  patch_rises =
+      let P = λ (ms : List ℕ). AllPairs (λ a b. a < b) ms in
+      subst P (sym (numbers_back (places g.points) (face_at g f).points) ∙ ap spot_numbers patch_at_is) numbers_rise
 
   -- the points of a two-face lie apart
   pub shape_apart : AreApart (patch_at g f)

@@ -1,7 +1,7 @@
 -- Small points in two coordinates, and their areas.
 use Rattle.std.proofs.Common.{◌≡◌, ℕ, zero, suc, ◌+◌, ◌-◌, ◌<◌, ◌≤◌, Bool, true, false, not, refl, sym, ap, ◌∙◌, subst, arith, ℤ, pos, negsuc, ◌-ℤ◌, ◌<ℤ◌, ◌≤ℤ◌, List, [], ◌∷◌, get_or, unsigned_abs, w64, to_z, of_z, FitsSigned}
 use Rattle.std.proofs.lemmas.Int.{ints}
-use lib.Signed.{lt_z}
+use lib.Signed.{lt_z, le_z}
 use Rattle.ntfe_nums.specs.Sizes.{AreWithin}
 use Rattle.ntfe_nums.specs.Vectors.{Vector, numbers, coordinate}
 use Rattle.ntfe_nums.proofs.Ring.{Expression}
@@ -31,13 +31,19 @@ pub bits_of_zero : (z : ℤ) → z ≡ pos 0 → of_z w64 z ≡ 0
 bits_of_zero z e = ap (of_z w64) e
 
 -- what tests of the sign say
-below_from_test : (a b : ℤ) → lt_z a b ≡ true → a <ℤ b
+pub below_from_test : (a b : ℤ) → lt_z a b ≡ true → a <ℤ b
 below_from_test a b h = grind (arith, ints)
 
-least_from_test : (a b : ℤ) → lt_z a b ≡ false → b ≤ℤ a
+pub least_from_test : (a b : ℤ) → lt_z a b ≡ false → b ≤ℤ a
 least_from_test a b h = grind (arith, ints)
 
-word_back : (z : ℤ) → unsigned_abs z ≤ 16777216 → to_z w64 (of_z w64 z) ≡ z
+most_from_test : (a b : ℤ) → le_z a b ≡ true → a ≤ℤ b
+most_from_test a b h = grind (arith, ints)
+
+over_from_test : (a b : ℤ) → le_z a b ≡ false → b <ℤ a
+over_from_test a b h = grind (arith, ints)
+
+pub word_back : (z : ℤ) → unsigned_abs z ≤ 16777216 → to_z w64 (of_z w64 z) ≡ z
 word_back z s = back w64 z 16777216 s (omega arith)
 
 module _ (z : ℤ) (s : unsigned_abs z ≤ 16777216) where
@@ -52,6 +58,12 @@ module _ (z : ℤ) (s : unsigned_abs z ≤ 16777216) where
 
   pub not_negative_from_test : lt_z (to_z w64 (of_z w64 z)) (pos 0) ≡ false → pos 0 ≤ℤ z
   not_negative_from_test t = least_from_test z (pos 0) (ap (λ y. lt_z y (pos 0)) (sym (word_back z s)) ∙ t)
+
+  pub most_zero_from_test : le_z (to_z w64 (of_z w64 z)) (pos 0) ≡ true → z ≤ℤ pos 0
+  most_zero_from_test t = most_from_test z (pos 0) (ap (λ y. le_z y (pos 0)) (sym (word_back z s)) ∙ t)
+
+  pub over_zero_from_test : le_z (to_z w64 (of_z w64 z)) (pos 0) ≡ false → pos 0 <ℤ z
+  over_zero_from_test t = over_from_test z (pos 0) (ap (λ y. le_z y (pos 0)) (sym (word_back z s)) ∙ t)
 
 pub zero_between : (z : ℤ) → z ≤ℤ pos 0 → pos 0 ≤ℤ z → z ≡ pos 0
 zero_between z h k = omega (arith, ints)

@@ -4,3 +4,7 @@ pub mod SpanLemmas
 pub mod PlaneNumbers
 pub mod UnitTriples
 pub mod FaceLemmas
+pub mod QuotientLemmas
+pub mod UnitLemmas
+pub mod SegmentLemmas
+pub mod StepLemmas

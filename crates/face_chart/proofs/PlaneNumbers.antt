@@ -1,5 +1,5 @@
 -- Areas and planes in two coordinates: identities of whole numbers, and signs of products.
-use Rattle.std.proofs.Common.{◌≡◌, ℕ, zero, suc, ◌-◌, ◌*◌, ◌⊎◌, inl, inr, ⊎_elim, refl, sym, ap, ◌∙◌, arith, ℤ, pos, negsuc, ◌+ℤ◌, ◌-ℤ◌, ◌*ℤ◌, ◌<ℤ◌, ◌≤ℤ◌, neg_ℤ, List, [], ◌∷◌, unsigned_abs}
+use Rattle.std.proofs.Common.{◌≡◌, ◌≢◌, ℕ, zero, suc, ◌-◌, ◌*◌, ◌⊎◌, inl, inr, ⊎_elim, refl, sym, ap, ◌∙◌, arith, ℤ, pos, negsuc, ◌+ℤ◌, ◌-ℤ◌, ◌*ℤ◌, ◌<ℤ◌, ◌≤ℤ◌, neg_ℤ, List, [], ◌∷◌, unsigned_abs}
 use Rattle.std.specs.Prelude.{slice_index_or}
 use Rattle.std.proofs.lemmas.Int.{ints, unsigned_abs-mul}
 use Rattle.ntfe_nums.specs.Vectors.{Vector, numbers, vector_sum, multiple, coordinate, area, sign}
@@ -112,6 +112,11 @@ sign_positive (negsuc n) h = absurd (omega (arith, ints, h))
 pub sign_negative : (z : ℤ) → z <ℤ pos 0 → sign z ≡ negsuc 0
 sign_negative (pos n) h = absurd (omega (arith, ints, h))
 sign_negative (negsuc n) h = refl
+
+pub sign_not_right : (z : ℤ) → pos 0 ≤ℤ z → sign z ≢ negsuc 0
+sign_not_right (pos zero) h e = cc
+sign_not_right (pos (suc n)) h e = cc
+sign_not_right (negsuc n) h e = absurd (omega (arith, ints, h))
 
 -- ---- coordinates
 

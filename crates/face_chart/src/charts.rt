@@ -1,9 +1,12 @@
 //! The chart of a two-face.
-ghost use Rattle.std.specs.Prelude.{◌≡◌, ◌↔◌, IfOk, IsTrue};
-ghost use Rattle.ntfe_model.specs.Charts.{spot_numbers, IsOf, place, turn};
+ghost use Rattle.std.specs.Prelude.{◌≡◌, ◌<◌, ◌↔◌, AllPairs, IfOk, IsTrue};
+ghost use Rattle.ntfe_model.specs.Charts.{spot_numbers, IsOf, place, turn, IsUnit, AreSteps};
+ghost use Rattle.face_chart.specs.Steps.{AreApart};
 ghost use Rattle.ntfe_model.specs.Pairs.{IsSmall};
 
+use crate::steps::boundary_steps;
 use crate::table::Table;
+use crate::units::unit_area;
 use ntfe_model::Vec4;
 use std::alloc::{AllocError, Global};
 use std::marker::Model;
@@ -12,6 +15,8 @@ use std::marker::Model;
 #[derive(Drop)]
 pub struct Chart {
     table: Table,
+    unit_area: i64,
+    boundary: Vec<(u32, u32)>,
 }
 
 impl Model for Chart {
@@ -19,15 +24,28 @@ impl Model for Chart {
 
     ghost Value = { Patch };
 
+    ghost use Rattle.ntfe_model.specs.Charts.{AreSteps};
+    ghost use Rattle.face_chart.specs.Units.{IsUnitArea};
+
     ghost view = { λ c. c.table };
+
+    ghost invariant = { λ c. IsUnitArea c.table c.unit_area × AreSteps c.table c.boundary.items };
 }
 
 impl Chart {
-    /// The chart of a table.
-    pub fn from_table(table: Table) -> Chart
-        ensures { result ≡ table }
+    /// The chart of the points of a table.
+    pub fn from_table(alloc: Global, table: Table) -> Result<Chart, AllocError>
+        requires apart { AreApart table }
+        requires rising { AllPairs (λ j k. j < k) (spot_numbers table) }
+        ensures { IfOk result (λ c. c ≡ table) }
     {
-        Chart { table }
+        let unit_area = unit_area(&table);
+        let boundary = boundary_steps(alloc, &table)?;
+        Ok(Chart {
+            table,
+            unit_area,
+            boundary,
+        })
     }
 
     /// The numbers of the points, from 1 and rising. Takes no memory.
@@ -64,6 +82,27 @@ impl Chart {
         0
     }
 
+    /// Whether three points of the face, by their numbers from 1, are a unit triple: they turn to the
+    /// left, and each point of the face is reached from the first by whole multiples of the sides to
+    /// the other two. Takes no memory.
+    pub fn unit(&self, a: u32, b: u32, c: u32) -> bool
+        requires a { IsOf self.now a }
+        requires b { IsOf self.now b }
+        requires c { IsOf self.now c }
+        ensures { IsTrue result ↔ IsUnit self.now a b c }
+    {
+        let area = self.table.area(a, b, c);
+        area > 0 && area == self.unit_area
+    }
+
+    /// The boundary steps, in order: the pairs (a, b) of points, by their numbers from 1, with no point
+    /// of the face to the right of the step from a to b, and none between its ends. Takes no memory.
+    pub fn boundary(&self) -> &[(u32, u32)]
+        ensures { AreSteps self.now result.now }
+    {
+        self.boundary.as_slice()
+    }
+
     /// Whether both have the same points at the same places. Takes no memory.
     pub fn same(&self, other: &Chart) -> bool
         ensures { IsTrue result ↔ (self.now ≡ other.now) }
@@ -76,6 +115,11 @@ impl Chart {
         ensures { IfOk result (λ c. c ≡ self.now) }
     {
         let table = self.table.try_clone(alloc)?;
-        Ok(Chart { table })
+        let boundary = Vec::from_slice(alloc, self.boundary.as_slice())?;
+        Ok(Chart {
+            table,
+            unit_area: self.unit_area,
+            boundary,
+        })
     }
 }

@@ -4,8 +4,11 @@
 mod charts;
 mod flat;
 mod made;
+mod segment;
 mod span;
+mod steps;
 mod table;
+mod units;
 
 pub use charts::Chart;
 pub use made::chart;

@@ -22,5 +22,5 @@ pub fn chart(alloc: Global, geometry: &Geometry, face: u32) -> Result<Chart, All
     let numbers = Vec::from_slice(alloc, geometry.faces()[face as usize].points.as_slice())?;
     let places = places_of(alloc, geometry.points())?;
     let table = Table::new(alloc, numbers, places)?;
-    Ok(Chart::from_table(table))
+    Chart::from_table(alloc, table)
 }
