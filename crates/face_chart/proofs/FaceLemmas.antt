@@ -1,6 +1,6 @@
 -- The points of a two-face of a geometry: they are known and small, their numbers rise, and they lie apart.
-use Rattle.std.proofs.Common.{◌≡◌, ℕ, zero, suc, ◌+◌, ◌-◌, ◌<◌, ◌≤◌, ◌⊎◌, inl, inr, ⊎_elim, Bool, ◌&&◌, refl, sym, ap, ◌∙◌, subst, arith, ℤ, pos, negsuc, ◌≤ℤ◌, List, [], ◌∷◌, map, length, get_or}
-use Rattle.std.specs.Prelude.{All, Any, AllPairs, Contains, slice_index_or}
+use Rattle.std.proofs.Common.{◌≡◌, ℕ, zero, suc, ◌+◌, ◌-◌, ◌<◌, ◌≤◌, ◌⊎◌, inl, inr, ◌&&◌, refl, sym, ap, ◌∙◌, subst, arith, ℤ, pos, negsuc, ◌≤ℤ◌, List, [], ◌∷◌, map, length, get_or}
+use Rattle.std.specs.Prelude.{All, Any, AllPairs}
 use Rattle.std.specs.Ordering.{ordering_reverse}
 use Rattle.std.specs.declared.cmp.Ordering.TheVariants.{Less}
 use Rattle.std.specs.Cmp.{int_cmp_total}
@@ -14,7 +14,7 @@ use Rattle.ntfe_nums.specs.Vectors.{Vector, numbers, origin, Precedes}
 use Rattle.ntfe_model.specs.Pairs.{VertexLists, IsSmall, entry}
 use Rattle.ntfe_model.specs.Points.{place_of_point, no_point, points_on_both, is_tight, ArePoints, IsPointOf, IsInside, IsFaceOf}
 use Rattle.ntfe_model.specs.Shapes.{Shape, IsShape, face_at, no_face}
-use Rattle.ntfe_model.specs.Charts.{Patch, patch_of, patch_at, place, IsOf, spot_numbers}
+use Rattle.ntfe_model.specs.Charts.{Patch, patch_at, place, IsOf, spot_numbers}
 use Rattle.ntfe_model.specs.declared.point.Point.{Point}
 use Rattle.ntfe_model.specs.declared.face.Face.{Face}
 use Rattle.ntfe_model.proofs.Listings.{listing_range}

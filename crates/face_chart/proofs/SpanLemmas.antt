@@ -1,5 +1,5 @@
 -- Whether some three points of a patch have an area.
-use Rattle.std.proofs.Common.{◌≡◌, ◌≢◌, ℕ, zero, suc, ◌+◌, ◌-◌, ◌<◌, ◌≤◌, Bool, true, false, not, refl, sym, ap, ◌∙◌, subst, cond, arith, ℤ, pos, negsuc, ◌+ℤ◌, List, [], ◌∷◌, map, length, get_or}
+use Rattle.std.proofs.Common.{◌≡◌, ◌≢◌, ℕ, suc, Bool, true, false, not, refl, sym, ap, ◌∙◌, cond, arith, ℤ, pos, ◌+ℤ◌, List, [], ◌∷◌}
 use Rattle.std.specs.Prelude.{All, Any, Contains}
 use Rattle.std.specs.List.{list_any}
 use Rattle.std.specs.Ordering.{int_eq}
@@ -9,7 +9,7 @@ use Rattle.std.proofs.lemmas.List.Elements.{All-contains}
 use Rattle.std.proofs.lemmas.List.Folds.{list_any_none, list_any_at}
 use Rattle.ntfe_nums.specs.Vectors.{Vector, coordinate, area}
 use Rattle.ntfe_nums.proofs.Ring.{Expression, ring}
-use Rattle.ntfe_nums.proofs.Ring.Expression.{var, num, plus, minus, times}
+use Rattle.ntfe_nums.proofs.Ring.Expression.{var, plus, minus, times}
 use Rattle.ntfe_model.specs.Charts.{Patch, Spot, spans, axes}
 use Rattle.ntfe_model.proofs.Listings.{All-from_contains}
 use Rattle.face_chart.specs.Tables.{patch, place_at}

@@ -1,10 +1,10 @@
 -- The list of the boundary steps, made of one part after the other.
-use Rattle.std.proofs.Common.{◌≡◌, ◌≢◌, ℕ, zero, suc, ◌+◌, ◌<◌, ◌≤◌, ◌⊎◌, inl, inr, ⊎_elim, refl, sym, ap, ◌∙◌, subst, arith, List, [], ◌∷◌, ◌++◌, take, length, get_or, append_assoc}
-use Rattle.std.specs.Prelude.{All, AllPairs, Contains}
+use Rattle.std.proofs.Common.{◌≡◌, ℕ, zero, suc, ◌+◌, ◌<◌, ◌≤◌, ◌⊎◌, inl, inr, ⊎_elim, refl, sym, ap, ◌∙◌, subst, arith, List, [], ◌∷◌, ◌++◌, take, length, get_or, append_assoc}
+use Rattle.std.specs.Prelude.{AllPairs, Contains}
 use Rattle.std.proofs.lemmas.List.{append-nil, take_all}
 use Rattle.std.proofs.lemmas.List.Elements.{All-cons, All-nil, All-append, All-weaker, All-contains, Contains-append_left, Contains-append_right, Contains-get_or}
-use Rattle.ntfe_model.specs.Lists.{IsListing, IsBefore2}
-use Rattle.ntfe_model.specs.Charts.{Patch, IsStep, AreSteps, spot_numbers, IsOf}
+use Rattle.ntfe_model.specs.Lists.{IsBefore2}
+use Rattle.ntfe_model.specs.Charts.{Patch, IsStep, AreSteps, spot_numbers}
 use Rattle.ntfe_model.proofs.Listings.{AllPairs-append, AllPairs-head, AllPairs-tail, Contains-here, Contains-there, Contains-cases, Contains-none}
 use Rattle.face_chart.specs.Steps.{IsStepWith, AddsSteps}
 

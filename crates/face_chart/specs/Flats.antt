@@ -1,5 +1,5 @@
 -- Points in two of their coordinates.
-use Rattle.std.specs.Prelude.{ℕ, ◌<◌, ◌≤◌, ℤ, ◌-ℤ◌, [], ◌∷◌}
+use Rattle.std.specs.Prelude.{ℕ, ◌≤◌, ℤ, ◌-ℤ◌, [], ◌∷◌}
 use Rattle.ntfe_nums.specs.Sizes.{AreWithin}
 use Rattle.ntfe_nums.specs.Vectors.{Vector, coordinate, det2}
 use Rattle.face_chart.specs.declared.flat.Flat.{Flat}

@@ -1,5 +1,5 @@
 -- What a boundary step asks of each point, and how the list of the boundary steps is made.
-use Rattle.std.specs.Prelude.{◌≡◌, ◌≢◌, ℕ, ◌^◌, ◌≤◌, ℤ, negsuc, unsigned_abs, List, ◌++◌}
+use Rattle.std.specs.Prelude.{◌≡◌, ◌≢◌, ℕ, ◌^◌, ◌≤◌, negsuc, unsigned_abs, List, ◌++◌}
 use Rattle.ntfe_model.specs.Lists.{IsListing, IsBefore2}
 use Rattle.ntfe_model.specs.Charts.{Patch, place, turn, IsOf, IsOnSegment, IsStep}
 use Rattle.face_chart.specs.declared.segment.Share.{Share}

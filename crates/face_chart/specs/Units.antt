@@ -1,6 +1,6 @@
 -- What decides whether a triple is a unit triple.
 use Rattle.std.specs.Prelude.{◌≡◌, ℕ, ◌^◌, ◌≤◌, ℤ, pos, ◌+ℤ◌, ◌-ℤ◌, ◌*ℤ◌, ◌<ℤ◌, unsigned_abs, List, slice_index_or}
-use Rattle.ntfe_nums.specs.Vectors.{Vector, area}
+use Rattle.ntfe_nums.specs.Vectors.{area}
 use Rattle.ntfe_model.specs.Charts.{Patch, axes, place, reached, IsOf, IsUnit}
 use Rattle.face_chart.specs.declared.units.Multiples.{Multiples}
 

@@ -1,4 +1,4 @@
-use Rattle.std.proofs.Common.{ℕ, ◌≤◌, arith, refl, sym, subst, unsigned_abs, ℤ, w64, ◌∙◌}
+use Rattle.std.proofs.Common.{◌≤◌, arith, refl, sym, subst, unsigned_abs, ℤ, w64}
 use Rattle.ntfe_nums.proofs.Machine.{exact, fits, value-size}
 use Rattle.face_chart.proofs.FlatLemmas.{vars, bounds, bounded, leftE, rightE, areaE}
 use Rattle.face_chart.proofs.flat.flat_area.Goals as goal

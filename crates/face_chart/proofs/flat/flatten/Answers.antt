@@ -1,4 +1,4 @@
-use Rattle.std.proofs.Common.{ℕ, ◌≤◌, ◌<◌, ◌-◌, ◌^◌, arith, refl, sym, subst, ap, unsigned_abs, ℤ, pos, List, get_or, w64, to_z, of_z, ◌≡◌, ◌∙◌}
+use Rattle.std.proofs.Common.{ℕ, ◌-◌, arith, sym, subst, ap, ℤ, pos, List, get_or, w64, to_z, of_z, ◌≡◌, ◌∙◌}
 use Rattle.ntfe_nums.specs.Vectors.{Vector, numbers, coordinate}
 use Rattle.ntfe_model.specs.Pairs.{IsSmall}
 use Rattle.ntfe_nums.proofs.Machine.{back}

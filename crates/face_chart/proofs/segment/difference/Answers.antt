@@ -1,8 +1,7 @@
-use Rattle.std.proofs.Common.{ℕ, ℤ, ◌≡◌, ◌∙◌, refl, sym, ap, w64, to_z, of_z, List, [], ◌∷◌, get_or, pos, ◌-ℤ◌, arith}
-use Rattle.ntfe_nums.specs.Sizes.{AreWithin}
-use Rattle.ntfe_nums.specs.Vectors.{Vector, vector, numbers, difference}
+use Rattle.std.proofs.Common.{ℕ, ℤ, ◌≡◌, ◌∙◌, refl, w64, to_z, of_z, List, [], ◌∷◌, get_or, pos, ◌-ℤ◌}
+use Rattle.ntfe_nums.specs.Vectors.{Vector, numbers, difference}
 use Rattle.ntfe_nums.proofs.Ring.Expression.{var, minus}
-use Rattle.ntfe_nums.proofs.Machine.{AreBounded, AreWithin-four, AreWithin-same, AreWithin-difference, exact}
+use Rattle.ntfe_nums.proofs.Machine.{AreWithin-four, AreWithin-same, AreWithin-difference, exact}
 use Rattle.ntfe_model.specs.Pairs.{IsSmall}
 use Rattle.face_chart.proofs.FlatLemmas.{small_numbers}
 use Rattle.face_chart.proofs.segment.difference.Goals as goal

@@ -1,5 +1,4 @@
-use Rattle.std.proofs.Common.{ℕ, ℤ, ◌≡◌, ◌<◌, ◌≤◌, ◌+◌, ◌∙◌, ◌*ℤ◌, ◌<ℤ◌, ◌≤ℤ◌, Bool, true, false, arith, sym, ap, subst, w64, to_z, of_z, List, get_or, pos, unsigned_abs, below_more}
-use Rattle.std.proofs.lemmas.Int.{ints}
+use Rattle.std.proofs.Common.{ℕ, ℤ, ◌≡◌, ◌≤◌, ◌∙◌, ◌*ℤ◌, ◌<ℤ◌, ◌≤ℤ◌, true, false, arith, sym, w64, to_z, of_z, List, get_or, pos, unsigned_abs, below_more}
 use lib.Signed.{lt_z}
 use Rattle.ntfe_nums.specs.Vectors.{Vector, vector, numbers, difference, dot}
 use Rattle.face_chart.proofs.FlatLemmas.{word_back, negative_from_test, not_negative_from_test, below_from_test, least_from_test}

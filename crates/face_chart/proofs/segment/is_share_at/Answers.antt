@@ -1,8 +1,8 @@
-use Rattle.std.proofs.Common.{ℕ, ℤ, ◌≡◌, ◌==◌, ◌∙◌, Bool, true, false, arith, sym, ap, refl, w64, to_z, of_z, List, [], ◌∷◌, get_or, pos, ◌*ℤ◌, to_z-of_z}
+use Rattle.std.proofs.Common.{ℕ, ℤ, ◌≡◌, ◌==◌, ◌∙◌, Bool, true, false, arith, sym, ap, refl, w64, to_z, of_z, List, [], ◌∷◌, get_or, pos, to_z-of_z}
 use Rattle.std.proofs.lemmas.Bool.Decides.{nat_tests}
 use Rattle.ntfe_nums.specs.Sizes.{AreWithin}
 use Rattle.ntfe_nums.proofs.Ring.Expression.{var, times}
-use Rattle.ntfe_nums.proofs.Machine.{AreBounded, AreWithin-four, exact, raw, fits}
+use Rattle.ntfe_nums.proofs.Machine.{AreBounded, AreWithin-four, exact, fits}
 use Rattle.face_chart.specs.declared.segment.Share.{Share}
 use Rattle.face_chart.specs.Steps.{IsSmallShare}
 use Rattle.face_chart.proofs.segment.is_share_at.Goals as goal

@@ -1,6 +1,5 @@
 use Rattle.std.proofs.Common.{ℕ, ℤ, ◌≡◌, ◌≤◌, ◌∙◌, arith, sym, subst, unsigned_abs, w64, to_z, of_z, List, [], ◌∷◌, get_or, pos}
 use Rattle.ntfe_nums.specs.Sizes.{AreWithin}
-use Rattle.ntfe_nums.specs.Vectors.{dot, vector}
 use Rattle.ntfe_nums.proofs.DetLemmas.{dotE, row}
 use Rattle.ntfe_nums.proofs.Machine.{AreBounded, AreWithin-four, AreWithin-weaker, value-size}
 use Rattle.face_chart.proofs.FlatLemmas.{word_back}

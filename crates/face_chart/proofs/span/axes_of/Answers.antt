@@ -1,4 +1,4 @@
-use Rattle.std.proofs.Common.{◌≡◌, ◌∙◌, sym, refl, Bool, true, false}
+use Rattle.std.proofs.Common.{◌∙◌, sym, refl, true, false}
 use Rattle.face_chart.specs.Tables.{patch}
 use Rattle.face_chart.proofs.SpanLemmas.{axes_are}
 use Rattle.face_chart.proofs.span.axes_of.Goals as goal

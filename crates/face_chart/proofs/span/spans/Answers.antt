@@ -1,4 +1,4 @@
-use Rattle.std.proofs.Common.{◌≡◌, ◌<◌, ◌∙◌, sym, ap, arith, ℕ, get_or, length}
+use Rattle.std.proofs.Common.{◌<◌, ◌∙◌, ap, arith, get_or, length}
 use Rattle.std.proofs.lemmas.List.Elements.{Contains-get_or}
 use Rattle.face_chart.specs.Flats.{flat_of}
 use Rattle.face_chart.proofs.PatchLemmas.{place_here}

@@ -1,6 +1,5 @@
-use Rattle.std.proofs.Common.{◌≡◌, ◌∙◌, sym, ap, subst, arith, ℕ, ◌<◌, ◌≤◌, List, length, get_or}
+use Rattle.std.proofs.Common.{◌∙◌, sym, ap, arith, ◌<◌, length, get_or}
 use Rattle.ntfe_model.specs.Charts.{spot_numbers}
-use Rattle.face_chart.specs.Steps.{AddsSteps}
 use Rattle.face_chart.proofs.StepLemmas.{from_start, from_more, from_end, pair_step, pair_none}
 use Rattle.face_chart.proofs.steps.add_steps.Goals as goal
 use Rattle.face_chart.proofs.steps.add_steps.Goals.{then-is_step+in_ok-push, else-is_step}

@@ -1,7 +1,6 @@
-use Rattle.std.proofs.Common.{◌≡◌, ◌≢◌, ◌∙◌, sym, ap, subst, arith, ℕ, ℤ, pos, negsuc, ◌<ℤ◌, ◌≤ℤ◌, Bool, true, false, not}
+use Rattle.std.proofs.Common.{◌≡◌, ◌≢◌, sym, subst, ℤ, pos, negsuc, ◌<ℤ◌, ◌≤ℤ◌, Bool, true, false, not}
 use Rattle.ntfe_nums.specs.Vectors.{Vector, sign}
-use Rattle.ntfe_model.specs.Charts.{place, IsOnSegment}
-use Rattle.face_chart.specs.Steps.{IsClear}
+use Rattle.ntfe_model.specs.Charts.{IsOnSegment}
 use Rattle.face_chart.proofs.FlatLemmas.{negative_from_test, not_negative_from_test}
 use Rattle.face_chart.proofs.PlaneNumbers.{sign_negative, sign_not_right}
 use Rattle.face_chart.proofs.UnitTriples.{area_of}

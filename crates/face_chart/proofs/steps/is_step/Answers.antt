@@ -1,7 +1,7 @@
-use Rattle.std.proofs.Common.{◌≡◌, ◌≢◌, ◌∙◌, sym, ap, subst, ℕ, ◌<◌, List, get_or, true, false}
-use Rattle.std.specs.Prelude.{All, Contains}
+use Rattle.std.proofs.Common.{subst, ℕ, List, get_or}
+use Rattle.std.specs.Prelude.{Contains}
 use Rattle.std.proofs.lemmas.List.Elements.{All-contains, Contains-get_or}
-use Rattle.ntfe_model.specs.Charts.{spot_numbers, IsStep}
+use Rattle.ntfe_model.specs.Charts.{spot_numbers}
 use Rattle.face_chart.specs.Steps.{IsClear}
 use Rattle.face_chart.proofs.UnitLemmas.{kept_more, kept_all}
 use Rattle.face_chart.proofs.steps.is_step.Goals as goal

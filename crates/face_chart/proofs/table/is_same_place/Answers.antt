@@ -1,4 +1,4 @@
-use Rattle.std.proofs.Common.{◌≡◌, ◌≢◌, ℤ, List, Bool, true, false, sym, ap, ◌∙◌}
+use Rattle.std.proofs.Common.{◌≡◌, ℤ, List, Bool, true, false, sym, ap, ◌∙◌}
 use Rattle.std.specs.Cmp.Rules.{signed_items}
 use Rattle.ntfe_nums.specs.Vectors.{Vector, vector, numbers}
 use Rattle.face_chart.proofs.table.is_same_place.Goals as goal

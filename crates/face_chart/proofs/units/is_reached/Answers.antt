@@ -1,6 +1,5 @@
-use Rattle.std.proofs.Common.{◌≡◌, ◌∙◌, sym, ap, subst, arith, ℕ, ◌<◌, ◌≤◌, ◌+◌, Bool, true, false, List, ℤ, get_or, pos, of_z, w64, below_more, unsigned_abs}
-use Rattle.ntfe_nums.specs.Sizes.{AreWithin}
-use Rattle.ntfe_nums.specs.Vectors.{numbers, Vector}
+use Rattle.std.proofs.Common.{◌≡◌, ◌∙◌, sym, ap, arith, get_or, pos, of_z, w64, below_more}
+use Rattle.ntfe_nums.specs.Vectors.{numbers}
 use Rattle.ntfe_nums.proofs.Machine.{AreWithin-same, AreWithin-four}
 use Rattle.face_chart.specs.Units.{reached_at}
 use Rattle.face_chart.proofs.FlatLemmas.{small_numbers}

@@ -1,8 +1,8 @@
-use Rattle.std.proofs.Common.{◌≡◌, ◌∙◌, sym, ap, subst, arith, ℕ, ℤ, pos, ◌<ℤ◌, ◌≤ℤ◌, ◌<◌, Bool, true, false, List, get_or}
-use Rattle.std.specs.Prelude.{All, Contains}
+use Rattle.std.proofs.Common.{◌≡◌, subst, arith, ℕ, ℤ, pos, ◌<ℤ◌, ◌≤ℤ◌, List, get_or}
+use Rattle.std.specs.Prelude.{Contains}
 use Rattle.std.proofs.lemmas.Int.{ints}
 use Rattle.std.proofs.lemmas.List.Elements.{All-contains, Contains-get_or}
-use Rattle.ntfe_model.specs.Charts.{spot_numbers, IsUnit}
+use Rattle.ntfe_model.specs.Charts.{spot_numbers}
 use Rattle.face_chart.specs.Units.{IsReached}
 use Rattle.face_chart.proofs.FlatLemmas.{most_zero_from_test, over_zero_from_test}
 use Rattle.face_chart.proofs.PlaneNumbers.{sign_positive}

@@ -1,6 +1,6 @@
-use Rattle.std.proofs.Common.{◌≡◌, ◌∙◌, sym, ap, subst, ℕ, ℤ, pos, ◌<ℤ◌, ◌≤◌, unsigned_abs, to_z, of_z, w64}
+use Rattle.std.proofs.Common.{◌≡◌, ◌∙◌, sym, subst, ℤ, pos, ◌<ℤ◌, to_z, of_z, w64}
 use Rattle.std.specs.Int.RustNames.{int_div}
-use Rattle.ntfe_model.specs.Charts.{place, reached}
+use Rattle.ntfe_model.specs.Charts.{reached}
 use Rattle.face_chart.proofs.QuotientLemmas.{quotient_fits, quotient_is, quotient_small}
 use Rattle.face_chart.proofs.UnitLemmas.{second_quotient, third_quotient}
 use Rattle.face_chart.proofs.units.reaches.Goals as goal

@@ -1,4 +1,4 @@
-use Rattle.std.proofs.Common.{◌≡◌, ◌∙◌, sym, ap, ℤ}
+use Rattle.std.proofs.Common.{◌∙◌, sym, ap}
 use Rattle.ntfe_nums.specs.Vectors.{sign}
 use Rattle.ntfe_model.specs.Charts.{turn}
 use Rattle.face_chart.proofs.FlatLemmas.{positive_from_test, not_positive_from_test, negative_from_test, not_negative_from_test, zero_between}

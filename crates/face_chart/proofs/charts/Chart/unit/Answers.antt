@@ -1,7 +1,7 @@
 use Rattle.std.proofs.Common.{ℕ, ℤ, pos, ◌<ℤ◌, ◌≤ℤ◌, ◌==◌, Bool, true, false, ◌≡◌, ◌≤◌, sym, ap, subst, ◌∙◌, arith, unsigned_abs, w64, of_z}
 use Rattle.std.proofs.lemmas.Int.{ints}
 use Rattle.std.proofs.lemmas.Bool.Decides.{nat_tests}
-use Rattle.ntfe_model.specs.Charts.{Patch, IsUnit}
+use Rattle.ntfe_model.specs.Charts.{Patch}
 use Rattle.face_chart.specs.Units.{IsUnitArea}
 use Rattle.face_chart.proofs.FlatLemmas.{positive_from_test, not_positive_from_test}
 use Rattle.face_chart.proofs.UnitTriples.{area_of, unit_area}

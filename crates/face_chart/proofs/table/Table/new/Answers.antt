@@ -1,6 +1,5 @@
-use Rattle.std.proofs.Common.{◌≡◌, ◌∙◌, sym, ap, arith, map, take, List, [], ◌∷◌, ◌++◌}
+use Rattle.std.proofs.Common.{◌∙◌, sym, ap, arith, map, take, [], ◌∷◌, ◌++◌}
 use Rattle.std.proofs.lemmas.List.{map_more, take_all}
-use Rattle.ntfe_nums.specs.Vectors.{Vector}
 use Rattle.ntfe_model.specs.Charts.{axes}
 use Rattle.face_chart.specs.Flats.{flat_of}
 use Rattle.face_chart.specs.Tables.{patch}

@@ -1,4 +1,4 @@
-use Rattle.std.proofs.Common.{ℕ, arith, ◌<◌, ◌-◌}
+use Rattle.std.proofs.Common.{arith}
 use Rattle.face_chart.proofs.PatchLemmas.{known_at, place_read, small_read}
 use Rattle.face_chart.proofs.table.Table.place.Goals as goal
 

@@ -1,4 +1,4 @@
-use Rattle.std.proofs.Common.{◌∙◌, sym}
+use Rattle.std.proofs.Common.{◌∙◌}
 use Rattle.face_chart.proofs.PatchLemmas.{points_are}
 use Rattle.face_chart.proofs.table.Table.points.Goals as goal
 

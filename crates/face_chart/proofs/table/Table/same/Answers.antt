@@ -1,5 +1,4 @@
-use Rattle.std.proofs.Common.{◌≡◌, ◌∙◌, sym, ap, subst, arith, take, ℕ, List, length, get_or, ◌<◌, ◌-◌, Bool, true, false, refl}
-use Rattle.std.specs.Prelude.{All}
+use Rattle.std.proofs.Common.{◌≡◌, ◌∙◌, sym, subst, take, ℕ, List, get_or, true, false, refl}
 use Rattle.std.proofs.lemmas.List.{take_all}
 use Rattle.std.proofs.lemmas.List.Elements.{All-more, All-same, Contains-get_or}
 use Rattle.ntfe_nums.specs.Vectors.{Vector}
