@@ -1,0 +1,10 @@
+pub mod FlatLemmas
+pub mod PatchLemmas
+pub mod SpanLemmas
+pub mod PlaneNumbers
+pub mod UnitTriples
+pub mod FaceLemmas
+pub mod QuotientLemmas
+pub mod UnitLemmas
+pub mod SegmentLemmas
+pub mod StepLemmas

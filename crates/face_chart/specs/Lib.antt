@@ -1,0 +1,4 @@
+pub mod Flats
+pub mod Steps
+pub mod Tables
+pub mod Units

@@ -1,0 +1,14 @@
+//! The chart of a two-face: its points, the turn of three of them, unit triples and boundary steps.
+#![tactic(auto)]
+
+mod charts;
+mod flat;
+mod made;
+mod segment;
+mod span;
+mod steps;
+mod table;
+mod units;
+
+pub use charts::Chart;
+pub use made::chart;

@@ -1,0 +1,91 @@
+//! The coordinate pair of a two-face.
+ghost use Rattle.std.specs.Prelude.{◌≡◌, ◌≢◌, ◌<◌, ◌≤◌, pos, length, All, Any, true, false, slice_index_or};
+ghost use Rattle.ntfe_nums.specs.Vectors.{area, origin};
+ghost use Rattle.ntfe_model.specs.Pairs.{IsSmall};
+ghost use Rattle.ntfe_model.specs.Charts.{axes, spans as spans_patch};
+ghost use Rattle.face_chart.specs.Flats.{AreAxes, flat_of, IsSmallFlat, area_of_flats};
+ghost use Rattle.face_chart.specs.Tables.{patch, AreKnown, place_at};
+
+use crate::flat::{Flat, flat_area, flatten};
+use ntfe_model::Vec4;
+
+/// Whether some point of the list has an area with the two points.
+fn has_third(numbers: &[u32], places: &[Vec4], axes: (usize, usize), a: &Flat, b: &Flat) -> bool
+    requires known { AreKnown numbers.now places.now }
+    requires small { All IsSmall places.now }
+    requires axes { AreAxes axes }
+    requires first { IsSmallFlat a.now }
+    requires second { IsSmallFlat b.now }
+    ensures when_true { result ≡ true → Any (λ k. area_of_flats a.now b.now (flat_of axes (place_at places.now k)) ≢ pos 0) numbers.now }
+    ensures when_false { result ≡ false → All (λ k. area_of_flats a.now b.now (flat_of axes (place_at places.now k)) ≡ pos 0) numbers.now }
+{
+    for number in numbers {
+        let c = flatten(&places[*number as usize - 1], axes);
+        if flat_area(a, b, &c) != 0 {
+            return true;
+        }
+    }
+    false
+}
+
+/// Whether some two points of the list have an area with the point.
+fn has_second(numbers: &[u32], places: &[Vec4], axes: (usize, usize), a: &Flat) -> bool
+    requires known { AreKnown numbers.now places.now }
+    requires small { All IsSmall places.now }
+    requires axes { AreAxes axes }
+    requires first { IsSmallFlat a.now }
+    ensures when_true { result ≡ true → Any (λ j. Any (λ k. area_of_flats a.now (flat_of axes (place_at places.now j)) (flat_of axes (place_at places.now k)) ≢ pos 0) numbers.now) numbers.now }
+    ensures when_false { result ≡ false → All (λ j. All (λ k. area_of_flats a.now (flat_of axes (place_at places.now j)) (flat_of axes (place_at places.now k)) ≡ pos 0) numbers.now) numbers.now }
+{
+    for number in numbers {
+        let b = flatten(&places[*number as usize - 1], axes);
+        if has_third(numbers, places, axes, a, &b) {
+            return true;
+        }
+    }
+    false
+}
+
+/// Whether some three points of the list have an area in these coordinates. The first point is one
+/// of them, since where no two have an area with it, all lie on a line through it.
+fn spans(numbers: &[u32], places: &[Vec4], axes: (usize, usize)) -> bool
+    requires known { AreKnown numbers.now places.now }
+    requires small { All IsSmall places.now }
+    requires axes { AreAxes axes }
+    ensures { result ≡ spans_patch (patch numbers.now places.now) axes }
+{
+    if numbers.is_empty() {
+        return false;
+    }
+    let a = flatten(&places[numbers[0] as usize - 1], axes);
+    has_second(numbers, places, axes, &a)
+}
+
+/// The first coordinate pair in which some three points of the list have an area; (1, 2) where
+/// there is none.
+pub fn axes_of(numbers: &[u32], places: &[Vec4]) -> (usize, usize)
+    requires known { AreKnown numbers.now places.now }
+    requires small { All IsSmall places.now }
+    ensures value { result ≡ axes (patch numbers.now places.now) }
+    ensures axes { AreAxes result }
+{
+    if spans(numbers, places, (1, 2)) {
+        return (1, 2);
+    }
+    if spans(numbers, places, (1, 3)) {
+        return (1, 3);
+    }
+    if spans(numbers, places, (1, 4)) {
+        return (1, 4);
+    }
+    if spans(numbers, places, (2, 3)) {
+        return (2, 3);
+    }
+    if spans(numbers, places, (2, 4)) {
+        return (2, 4);
+    }
+    if spans(numbers, places, (3, 4)) {
+        return (3, 4);
+    }
+    (1, 2)
+}
