@@ -34,3 +34,4 @@ pub mod Multipliers
 pub mod Outcome
 pub mod Meaning
 pub mod Uses
+pub mod Determined
