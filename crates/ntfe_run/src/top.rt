@@ -59,12 +59,7 @@ fn list_faces<K: Sink>(alloc: Global, geometry: &Geometry, out: &mut K) -> Statu
 }
 
 /// Writes the classes.
-fn list_classes<K: Sink>(
-    alloc: Global,
-    push: Push,
-    geometry: &Geometry,
-    out: &mut K,
-) -> Status
+fn list_classes<K: Sink>(alloc: Global, push: Push, geometry: &Geometry, out: &mut K) -> Status
     ensures { IsAnswer (Task.Classes push) geometry.now (K.taken out.old) (K.taken out.new) (K.faults out.old) (K.faults out.new) result }
 {
     if are_triangles(geometry) {
@@ -75,12 +70,7 @@ fn list_classes<K: Sink>(
 }
 
 /// Does the task on the source and writes its answer.
-fn do_task<S: Source, K: Sink>(
-    alloc: Global,
-    task: Task,
-    source: &mut S,
-    out: &mut K,
-) -> Status
+fn do_task<S: Source, K: Sink>(alloc: Global, task: Task, source: &mut S, out: &mut K) -> Status
     ensures cause { HasTaskCause task (S.left source.old) (S.left source.new) (S.faults source.old) (S.faults source.new) (K.faults out.old) (K.faults out.new) result }
     ensures written { HasWritten (IsTaskText task) (S.left source.old) (S.left source.new) (K.taken out.old) (K.taken out.new) result }
 {
