@@ -1,18 +1,13 @@
 -- The points of a two-face of a geometry: they are known and small, their numbers rise, and they lie apart.
-use Rattle.std.proofs.Common.{◌≡◌, ℕ, zero, suc, ◌+◌, ◌-◌, ◌<◌, ◌≤◌, ◌⊎◌, inl, inr, ◌&&◌, refl, sym, ap, ◌∙◌, subst, arith, ℤ, pos, negsuc, ◌≤ℤ◌, List, [], ◌∷◌, map, length, get_or}
-use Rattle.std.specs.Prelude.{All, Any, AllPairs}
-use Rattle.std.specs.Ordering.{ordering_reverse}
-use Rattle.std.specs.declared.cmp.Ordering.TheVariants.{Less}
-use Rattle.std.specs.Cmp.{int_cmp_total}
-use Rattle.std.specs.Cmp.Lexicographic.{lists_total}
+use Rattle.std.proofs.Common.{◌≡◌, ℕ, zero, suc, ◌+◌, ◌-◌, ◌<◌, ◌≤◌, ◌⊎◌, inl, inr, ◌&&◌, refl, sym, ap, ◌∙◌, subst, arith, List, [], ◌∷◌, map, length, get_or}
+use Rattle.std.specs.Prelude.{All, AllPairs}
 use Rattle.std.specs.List.{range_with_len}
-use Rattle.std.proofs.lemmas.Int.{ints}
 use Rattle.std.proofs.lemmas.List.{get_or_read, length-map}
 use Rattle.std.proofs.lemmas.List.Elements.{All-filter, All-contains, All-weaker, All-same, All-map}
 use Rattle.std.proofs.lemmas.List.Kept.{AllPairs-filter}
-use Rattle.ntfe_nums.specs.Vectors.{Vector, numbers, origin, Precedes}
+use Rattle.ntfe_nums.specs.Vectors.{Vector, origin, Precedes}
 use Rattle.ntfe_model.specs.Pairs.{VertexLists, IsSmall, entry}
-use Rattle.ntfe_model.specs.Points.{place_of_point, no_point, points_on_both, is_tight, ArePoints, IsPointOf, IsInside, IsFaceOf}
+use Rattle.ntfe_model.specs.Points.{place_of_point, no_point, points_on_both, is_tight, ArePoints, IsPointOf, IsFaceOf}
 use Rattle.ntfe_model.specs.Shapes.{Shape, IsShape, face_at, no_face}
 use Rattle.ntfe_model.specs.Charts.{Patch, patch_at, place, IsOf, spot_numbers}
 use Rattle.ntfe_model.specs.declared.point.Point.{Point}
@@ -21,27 +16,10 @@ use Rattle.ntfe_model.proofs.Listings.{listing_range}
 use Rattle.face_chart.specs.Tables.{patch, place_at, AreKnown}
 use Rattle.face_chart.proofs.PatchLemmas.{of_numbers, place_of, numbers_back}
 use Rattle.face_chart.specs.Steps.{AreApart}
+use Rattle.ntfe_model.proofs.SmallVectors.{inside_small}
+use Rattle.ntfe_model.proofs.Orders.{precedes_once}
 
 -- ---- the places
-
--- a place in a box of small vectors is small
-inside_small : (p : VertexLists) (x : Vector) → All IsSmall p.vertices → IsInside p x → IsSmall x
-inside_small p x s i = record {
-  low1 = under (λ v. v.x1) x.x1 (λ v k. k.low1) i.box.low1;
-  high1 = over (λ v. v.x1) x.x1 (λ v k. k.high1) i.box.high1;
-  low2 = under (λ v. v.x2) x.x2 (λ v k. k.low2) i.box.low2;
-  high2 = over (λ v. v.x2) x.x2 (λ v k. k.high2) i.box.high2;
-  low3 = under (λ v. v.x3) x.x3 (λ v k. k.low3) i.box.low3;
-  high3 = over (λ v. v.x3) x.x3 (λ v k. k.high3) i.box.high3;
-  low4 = under (λ v. v.x4) x.x4 (λ v k. k.low4) i.box.low4;
-  high4 = over (λ v. v.x4) x.x4 (λ v k. k.high4) i.box.high4;
-}
-  where
-    under : (c : Vector → ℤ) (z : ℤ) → ((v : Vector) → IsSmall v → negsuc 1022 ≤ℤ c v) → Any (λ v. c v ≤ℤ z) p.vertices → negsuc 1022 ≤ℤ z
-    under c z f a = (let k = f a.1 (All-contains IsSmall p.vertices a.1 s (a.0, a.2, a.3)) in let l = a.4 in omega (arith, ints))
-
-    over : (c : Vector → ℤ) (z : ℤ) → ((v : Vector) → IsSmall v → c v ≤ℤ pos 1023) → Any (λ v. z ≤ℤ c v) p.vertices → z ≤ℤ pos 1023
-    over c z f a = (let k = f a.1 (All-contains IsSmall p.vertices a.1 s (a.0, a.2, a.3)) in let l = a.4 in omega (arith, ints))
 
 abbrev pub places : List Point → List Vector
 places xs = map (λ x. x.place) xs
@@ -63,14 +41,12 @@ pub places_small : (p : VertexLists) (xs : List Point) → All IsSmall p.vertice
 places_small p xs s l = All-map IsSmall (λ (x : Point). x.place) xs (All-weaker (IsPointOf p) (λ x. IsSmall x.place) (λ x k. inside_small p x.place s k.inside) xs l.sound)
 
 -- two points have different places
-precedes_not_itself : (v : Vector) → Precedes v v → ⊥
-precedes_not_itself v p = let r : Less ≡ ordering_reverse Less = sym p ∙ (lists_total int_cmp_total).antisymm (numbers v) (numbers v) ∙ ap ordering_reverse p in cc
-
 places_apart : (p : VertexLists) (xs : List Point) → ArePoints p xs → (a b : ℕ) → 1 ≤ a → a < b → b ≤ length xs → place_of_point xs a ≡ place_of_point xs b → ⊥
 places_apart p xs l a b h k m e =
     let q = l.ordered (a - 1) (b - 1) no_point (omega arith) (omega arith) in
     let P = λ (v : Vector). Precedes v (place_of_point xs b) in
-    precedes_not_itself (place_of_point xs b) (subst P e q)
+    let r : Precedes (place_of_point xs b) (place_of_point xs b) = subst P e q in
+    precedes_once (place_of_point xs b) (place_of_point xs b) r r
 
 -- ---- the numbers of a two-face
 

@@ -1,8 +1,7 @@
 -- Small points in two coordinates, and their areas.
-use Rattle.std.proofs.Common.{◌≡◌, ℕ, ◌-◌, ◌≤◌, true, false, sym, ap, ◌∙◌, arith, ℤ, pos, negsuc, ◌<ℤ◌, ◌≤ℤ◌, List, [], ◌∷◌, unsigned_abs, w64, to_z, of_z}
+use Rattle.std.proofs.Common.{◌≡◌, ℕ, ◌-◌, ◌≤◌, true, false, sym, ap, ◌∙◌, arith, ℤ, pos, ◌<ℤ◌, ◌≤ℤ◌, List, [], ◌∷◌, unsigned_abs, w64, to_z, of_z}
 use Rattle.std.proofs.lemmas.Int.{ints}
 use lib.Signed.{lt_z, le_z}
-use Rattle.ntfe_nums.specs.Sizes.{AreWithin}
 use Rattle.ntfe_nums.specs.Vectors.{Vector, numbers, coordinate}
 use Rattle.ntfe_nums.proofs.Ring.{Expression}
 use Rattle.ntfe_nums.proofs.Ring.Expression.{var, minus, times}
@@ -10,12 +9,7 @@ use Rattle.ntfe_nums.proofs.Machine.{AreBounded, AreWithin-four, back}
 use Rattle.ntfe_model.specs.Pairs.{IsSmall}
 use Rattle.face_chart.specs.declared.flat.Flat.{Flat}
 use Rattle.face_chart.specs.Flats.{IsSmallFlat, flat_of}
-
-short : (z : ℤ) → negsuc 1022 ≤ℤ z → z ≤ℤ pos 1023 → unsigned_abs z ≤ 1023
-short z h k = omega (arith, ints)
-
-pub small_numbers : (v : Vector) → IsSmall v → AreWithin 1023 (numbers v)
-small_numbers v s = (short v.x1 s.low1 s.high1, (short v.x2 s.low2 s.high2, (short v.x3 s.low3 s.high3, (short v.x4 s.low4 s.high4, tt))))
+use Rattle.ntfe_model.proofs.SmallVectors.{small_numbers}
 
 pub small_coordinate : (k : ℕ) (v : Vector) → IsSmall v → unsigned_abs (coordinate k v) ≤ 1023
 small_coordinate k v s = AreWithin-four 1023 (numbers v) (small_numbers v s) (k - 1)

@@ -8,3 +8,11 @@ pub mod QuotientLemmas
 pub mod UnitLemmas
 pub mod SegmentLemmas
 pub mod StepLemmas
+pub mod Areas
+pub mod Triples
+pub mod Walk
+pub mod ItemLemmas
+pub mod WordLemmas
+pub mod WordExists
+pub mod Folds
+pub mod FineSets

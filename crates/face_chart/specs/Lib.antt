@@ -2,3 +2,4 @@ pub mod Flats
 pub mod Steps
 pub mod Tables
 pub mod Units
+pub mod Kept

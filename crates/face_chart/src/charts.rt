@@ -24,17 +24,16 @@ impl Model for Chart {
 
     ghost Value = { Patch };
 
-    ghost use Rattle.ntfe_model.specs.Charts.{AreSteps};
-    ghost use Rattle.face_chart.specs.Units.{IsUnitArea};
+    ghost use Rattle.face_chart.specs.Kept.{IsCharted};
 
     ghost view = { λ c. c.table };
 
-    ghost invariant = { λ c. IsUnitArea c.table c.unit_area × AreSteps c.table c.boundary.items };
+    ghost invariant = { λ c. IsCharted c.table c.unit_area c.boundary.items };
 }
 
 impl Chart {
     /// The chart of the points of a table.
-    pub fn from_table(alloc: Global, table: Table) -> Result<Chart, AllocError>
+    pub(crate) fn from_table(alloc: Global, table: Table) -> Result<Chart, AllocError>
         requires apart { AreApart table }
         requires rising { AllPairs (λ j k. j < k) (spot_numbers table) }
         ensures { IfOk result (λ c. c ≡ table) }
@@ -48,9 +47,11 @@ impl Chart {
         })
     }
 
-    /// The numbers of the points, from 1 and rising. Takes no memory.
+    /// The numbers of the points, from 1 and rising. No two points lie in one place. Takes no memory.
     pub fn points(&self) -> &[u32]
-        ensures { result.now ≡ spot_numbers self.now }
+        ensures value { result.now ≡ spot_numbers self.now }
+        ensures rising { AllPairs (λ j k. j < k) result.now }
+        ensures apart { AreApart self.now }
     {
         self.table.points()
     }

@@ -16,6 +16,7 @@ use Rattle.lattice_points.specs.Lines.{place, IsOpen}
 use Rattle.lattice_points.specs.declared.bounds.Extent.{Extent}
 use Rattle.lattice_points.specs.declared.bounds.Bounds.{Bounds}
 use Rattle.lattice_points.specs.Boxes.{IsWithin, IsExtentOf, AreBoundsOf, IsSmallExtent, side_of_extent}
+use Rattle.ntfe_model.proofs.SmallVectors.{inside_small}
 
 -- a lower end that is moved down to the next value, where that is less
 pub least_more : (c : Vector → ℤ) (vs : List Vector) (i : ℕ) (v : Vector) (low new : ℤ) → i < length vs → v ≡ get_or vs i v → new ≤ℤ low → new ≤ℤ c v
@@ -141,25 +142,6 @@ inside_column p b x1 x2 x3 x4 h w1 w2 w3 =
       },
       λ i. (record { low = extent_low (λ v. v.x4) vs b.x4 x4 h.fourth i.box.low4; high = extent_high (λ v. v.x4) vs b.x4 x4 h.fourth i.box.high4 }, i.hull),
     )
-
--- a place in a box of small vectors is small
-pub inside_small : (p : VertexLists) (x : Vector) → All IsSmall p.vertices → IsInside p x → IsSmall x
-inside_small p x s i = record {
-  low1 = under (λ v. v.x1) x.x1 (λ v k. k.low1) i.box.low1;
-  high1 = over (λ v. v.x1) x.x1 (λ v k. k.high1) i.box.high1;
-  low2 = under (λ v. v.x2) x.x2 (λ v k. k.low2) i.box.low2;
-  high2 = over (λ v. v.x2) x.x2 (λ v k. k.high2) i.box.high2;
-  low3 = under (λ v. v.x3) x.x3 (λ v k. k.low3) i.box.low3;
-  high3 = over (λ v. v.x3) x.x3 (λ v k. k.high3) i.box.high3;
-  low4 = under (λ v. v.x4) x.x4 (λ v k. k.low4) i.box.low4;
-  high4 = over (λ v. v.x4) x.x4 (λ v k. k.high4) i.box.high4;
-}
-  where
-    under : (c : Vector → ℤ) (z : ℤ) → ((v : Vector) → IsSmall v → negsuc 1022 ≤ℤ c v) → Any (λ v. c v ≤ℤ z) p.vertices → negsuc 1022 ≤ℤ z
-    under c z f a = (let k = f a.1 (All-contains IsSmall p.vertices a.1 s (a.0, a.2, a.3)) in let l = a.4 in omega (arith, ints))
-
-    over : (c : Vector → ℤ) (z : ℤ) → ((v : Vector) → IsSmall v → c v ≤ℤ pos 1023) → Any (λ v. z ≤ℤ c v) p.vertices → z ≤ℤ pos 1023
-    over c z f a = (let k = f a.1 (All-contains IsSmall p.vertices a.1 s (a.0, a.2, a.3)) in let l = a.4 in omega (arith, ints))
 
 -- ---- one column
 

@@ -1,10 +1,8 @@
 -- The sums of a line, and the steps of its intervals.
 use Rattle.std.proofs.Common.{◌≡◌, ℕ, ◌+◌, ◌^◌, ◌<◌, ◌≤◌, refl, sym, ap, ◌∙◌, subst, arith, ℤ, pos, negsuc, ◌+ℤ◌, ◌*ℤ◌, ◌≤ℤ◌, List, [], ◌∷◌, length, take, get_or, unsigned_abs, w64, to_z, of_z, FitsSigned, length-take, get_or-take}
 use Rattle.std.specs.Prelude.{All, ◌↔◌}
-use Rattle.std.proofs.lemmas.Int.{ints}
 use Rattle.std.proofs.lemmas.List.{take_all, get_or_read}
 use Rattle.std.proofs.lemmas.List.Elements.{All-more, All-take}
-use Rattle.ntfe_nums.specs.Sizes.{AreWithin}
 use Rattle.ntfe_nums.specs.Vectors.{Vector, numbers, origin, dot}
 use Rattle.ntfe_nums.proofs.Ring.{Expression}
 use Rattle.ntfe_nums.proofs.Ring.Expression.{var, plus, times}
@@ -14,14 +12,7 @@ use Rattle.lattice_points.proofs.CutLemmas.{short_back}
 use Rattle.lattice_points.specs.declared.bounds.Extent.{Extent}
 use Rattle.lattice_points.specs.Boxes.{IsWithin}
 use Rattle.lattice_points.specs.Lines.{head_sum, IsOpen}
-
-short : (z : ℤ) → negsuc 1022 ≤ℤ z → z ≤ℤ pos 1023 → unsigned_abs z ≤ 1023
-short z h k = omega (arith, ints)
-
-pub small_numbers : (v : Vector) (cs : List ℤ) → IsSmall v → cs ≡ numbers v → AreWithin 1023 cs
-small_numbers v cs s e =
-    let P : List ℤ → Type 0 = AreWithin 1023 in
-    subst P (sym e) (short v.x1 s.low1 s.high1, (short v.x2 s.low2 s.high2, (short v.x3 s.low3 s.high3, (short v.x4 s.low4 s.high4, tt))))
+use Rattle.ntfe_model.proofs.SmallVectors.{small_size, small_coordinates}
 
 -- the vector at a place of a list of small ones
 pub small_at : (ms : List Vector) (i : ℕ) (m : Vector) → i < length ms → m ≡ get_or ms i m → All IsSmall ms → IsSmall m
@@ -38,22 +29,22 @@ headE = plus (times (var 0) (var 1)) (times (var 2) (var 3))
 module _ (m : Vector) (cs : List ℤ) (x1 x2 : ℤ) (e : cs ≡ numbers m) (s : IsSmall m) (h1 : unsigned_abs x1 ≤ 1023) (h2 : unsigned_abs x2 ≤ 1023) where
   pub head_fits : FitsSigned w64 (raw w64 (get_or cs 0 (pos 0) ∷ x1 ∷ get_or cs 1 (pos 0) ∷ x2 ∷ []) (plus (times (var 0) (var 1)) (times (var 2) (var 3))))
   head_fits =
-      let p = AreWithin-four 1023 cs (small_numbers m cs s e) in
+      let p = AreWithin-four 1023 cs (small_coordinates m cs s e) in
       fits w64 (get_or cs 0 (pos 0) ∷ x1 ∷ get_or cs 1 (pos 0) ∷ x2 ∷ []) (1023 ∷ 1023 ∷ 1023 ∷ 1023 ∷ []) (p 0, (h1, (p 1, (h2, tt)))) (plus (times (var 0) (var 1)) (times (var 2) (var 3))) refl
 
   pub head_is : machine w64 (get_or cs 0 (pos 0) ∷ x1 ∷ get_or cs 1 (pos 0) ∷ x2 ∷ []) (plus (times (var 0) (var 1)) (times (var 2) (var 3))) ≡ head_sum m x1 x2
   head_is =
-      let p = AreWithin-four 1023 cs (small_numbers m cs s e) in
+      let p = AreWithin-four 1023 cs (small_coordinates m cs s e) in
       exact w64 (get_or cs 0 (pos 0) ∷ x1 ∷ get_or cs 1 (pos 0) ∷ x2 ∷ []) (1023 ∷ 1023 ∷ 1023 ∷ 1023 ∷ []) (p 0, (h1, (p 1, (h2, tt)))) (plus (times (var 0) (var 1)) (times (var 2) (var 3))) refl
       ∙ (λ i. get_or (e i) 0 (pos 0) *ℤ x1 +ℤ get_or (e i) 1 (pos 0) *ℤ x2)
 
   pub head_size : unsigned_abs (head_sum m x1 x2) ≤ 2093058
-  head_size = value-size (m.x1 ∷ x1 ∷ m.x2 ∷ x2 ∷ []) (1023 ∷ 1023 ∷ 1023 ∷ 1023 ∷ []) (plus (times (var 0) (var 1)) (times (var 2) (var 3))) (short m.x1 s.low1 s.high1, (h1, (short m.x2 s.low2 s.high2, (h2, tt))))
+  head_size = value-size (m.x1 ∷ x1 ∷ m.x2 ∷ x2 ∷ []) (1023 ∷ 1023 ∷ 1023 ∷ 1023 ∷ []) (plus (times (var 0) (var 1)) (times (var 2) (var 3))) (small_size m.x1 s.low1 s.high1, (h1, (small_size m.x2 s.low2 s.high2, (h2, tt))))
 
 -- ---- the slope and the level of the fourth coordinate
 
 pub fourth_is : (m : Vector) (cs : List ℤ) → cs ≡ numbers m → IsSmall m → to_z w64 (of_z w64 (get_or cs 3 (pos 0))) ≡ m.x4
-fourth_is m cs e s = short_back (get_or cs 3 (pos 0)) (let p = AreWithin-four 1023 cs (small_numbers m cs s e) 3 in omega arith) ∙ ap (λ ns. get_or ns 3 (pos 0)) e
+fourth_is m cs e s = short_back (get_or cs 3 (pos 0)) (let p = AreWithin-four 1023 cs (small_coordinates m cs s e) 3 in omega arith) ∙ ap (λ ns. get_or ns 3 (pos 0)) e
 
 module _ (m : Vector) (cs : List ℤ) (sum x1 x2 x3 : ℤ) (e : cs ≡ numbers m) (s : IsSmall m) (q : sum ≡ head_sum m x1 x2) (h1 : unsigned_abs x1 ≤ 1023) (h2 : unsigned_abs x2 ≤ 1023) (h3 : unsigned_abs x3 ≤ 1023) where
   sum_size : unsigned_abs sum ≤ 2093058
@@ -61,17 +52,17 @@ module _ (m : Vector) (cs : List ℤ) (sum x1 x2 x3 : ℤ) (e : cs ≡ numbers m
 
   pub third_fits : FitsSigned w64 (raw w64 (get_or cs 2 (pos 0) ∷ x3 ∷ []) (times (var 0) (var 1)))
   third_fits =
-      let p = AreWithin-four 1023 cs (small_numbers m cs s e) in
+      let p = AreWithin-four 1023 cs (small_coordinates m cs s e) in
       fits w64 (get_or cs 2 (pos 0) ∷ x3 ∷ []) (1023 ∷ 1023 ∷ []) (p 2, (h3, tt)) (times (var 0) (var 1)) refl
 
   pub level_fits : FitsSigned w64 (raw w64 (sum ∷ get_or cs 2 (pos 0) ∷ x3 ∷ []) (plus (var 0) (times (var 1) (var 2))))
   level_fits =
-      let p = AreWithin-four 1023 cs (small_numbers m cs s e) in
+      let p = AreWithin-four 1023 cs (small_coordinates m cs s e) in
       fits w64 (sum ∷ get_or cs 2 (pos 0) ∷ x3 ∷ []) (2093058 ∷ 1023 ∷ 1023 ∷ []) (sum_size, (p 2, (h3, tt))) (plus (var 0) (times (var 1) (var 2))) refl
 
   level_plain : machine w64 (sum ∷ get_or cs 2 (pos 0) ∷ x3 ∷ []) (plus (var 0) (times (var 1) (var 2))) ≡ sum +ℤ get_or cs 2 (pos 0) *ℤ x3
   level_plain =
-      let p = AreWithin-four 1023 cs (small_numbers m cs s e) in
+      let p = AreWithin-four 1023 cs (small_coordinates m cs s e) in
       exact w64 (sum ∷ get_or cs 2 (pos 0) ∷ x3 ∷ []) (2093058 ∷ 1023 ∷ 1023 ∷ []) (sum_size, (p 2, (h3, tt))) (plus (var 0) (times (var 1) (var 2))) refl
 
   pub level_is : machine w64 (sum ∷ get_or cs 2 (pos 0) ∷ x3 ∷ []) (plus (var 0) (times (var 1) (var 2))) ≡ head_sum m x1 x2 +ℤ m.x3 *ℤ x3
@@ -79,7 +70,7 @@ module _ (m : Vector) (cs : List ℤ) (sum x1 x2 x3 : ℤ) (e : cs ≡ numbers m
 
   pub level_size : unsigned_abs (machine w64 (sum ∷ get_or cs 2 (pos 0) ∷ x3 ∷ []) (plus (var 0) (times (var 1) (var 2)))) ≤ 2 ^ 22
   level_size =
-      let p = AreWithin-four 1023 cs (small_numbers m cs s e) in
+      let p = AreWithin-four 1023 cs (small_coordinates m cs s e) in
       let b : unsigned_abs (sum +ℤ get_or cs 2 (pos 0) *ℤ x3) ≤ 3139587 = value-size (sum ∷ get_or cs 2 (pos 0) ∷ x3 ∷ []) (2093058 ∷ 1023 ∷ 1023 ∷ []) (plus (var 0) (times (var 1) (var 2))) (sum_size, (p 2, (h3, tt))) in
       let P : ℤ → Type 0 = λ y. unsigned_abs y ≤ 2 ^ 22 in
       subst P (sym level_plain) (let r : unsigned_abs (sum +ℤ get_or cs 2 (pos 0) *ℤ x3) ≤ 2 ^ 22 = omega arith in r)

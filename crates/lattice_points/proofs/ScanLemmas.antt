@@ -10,41 +10,18 @@ use Rattle.std.specs.Cmp.{int_cmp_is}
 use Rattle.std.specs.declared.cmp.Ordering.TheVariants.{Less, Equal}
 use Rattle.std.proofs.lemmas.Int.{ints, by_lt_z}
 use Rattle.std.proofs.lemmas.List.{append-nil}
-use Rattle.std.proofs.lemmas.List.Elements.{All-nil, All-append, All-weaker, All-contains, Contains-append_left, Contains-append_right}
 use lib.Signed.{lt_z, ≤ℤ_refl}
 use Rattle.ntfe_nums.specs.Sizes.{AreWithin}
 use Rattle.ntfe_nums.proofs.Ring.{right_sum, product_one, product_zero}
 use Rattle.ntfe_nums.specs.Vectors.{Vector, Precedes}
-use Rattle.ntfe_model.specs.Lists.{IsListing}
 use Rattle.ntfe_model.specs.Pairs.{VertexLists}
 use Rattle.ntfe_model.specs.Points.{IsPointOf, ArePoints}
 use Rattle.ntfe_model.specs.declared.point.Point.{Point}
-use Rattle.ntfe_model.proofs.Listings.{AllPairs-append}
+use Rattle.ntfe_model.proofs.Listings.{listing_nil, listing_append, listing_same}
 use Rattle.lattice_points.specs.declared.found.Found.{Found}
 use Rattle.lattice_points.specs.declared.bounds.Extent.{Extent}
 use Rattle.lattice_points.proofs.CutLemmas.{product_rises, short_back, not_past, past}
 use Rattle.lattice_points.specs.Scans.{IsAnywhere, IsBelow, IsPointWith, Adds}
-
--- ---- listings
-
-pub listing_nil : {X : Type 0} (before : X → X → Type 0) (P : X → Type 0) → ((x : X) → P x → ⊥) → IsListing before P []
-listing_nil before P none = record {
-  ordered = λ i j d k l. absurd (omega arith);
-  sound = All-nil P;
-  complete = λ x p. absurd (none x p);
-}
-
--- a listing of what has P, and then one of what has Q
-pub listing_append : {X : Type 0} (before : X → X → Type 0) (P Q R : X → Type 0) (xs ys : List X) → IsListing before P xs → IsListing before Q ys
-    → ((x y : X) → P x → Q y → before x y) → ((x : X) → P x → R x) → ((x : X) → Q x → R x) → ((x : X) → R x → P x ⊎ Q x) → IsListing before R (xs ++ ys)
-listing_append before P Q R xs ys l m apart f g split = record {
-  ordered = AllPairs-append before xs ys l.ordered m.ordered (λ x y h k. apart x y (All-contains P xs x l.sound h) (All-contains Q ys y m.sound k));
-  sound = All-append R xs ys (All-weaker P R f xs l.sound) (All-weaker Q R g ys m.sound);
-  complete = λ x r. ⊎_elim (λ p. Contains-append_left xs ys x (l.complete x p)) (λ q. Contains-append_right xs ys x (m.complete x q)) (split x r);
-}
-
-pub listing_same : {X : Type 0} (before : X → X → Type 0) (P Q : X → Type 0) (xs : List X) → IsListing before P xs → ((x : X) → P x → Q x) → ((x : X) → Q x → P x) → IsListing before Q xs
-listing_same before P Q xs l f g = record { ordered = l.ordered; sound = All-weaker P Q f xs l.sound; complete = λ x q. l.complete x (g x q) }
 
 -- ---- the order of coordinates
 

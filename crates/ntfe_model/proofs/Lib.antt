@@ -1,2 +1,5 @@
+pub mod Digits
 pub mod Examples
 pub mod Listings
+pub mod Orders
+pub mod SmallVectors

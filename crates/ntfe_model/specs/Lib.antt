@@ -15,3 +15,4 @@ pub mod RunText
 pub mod PairText
 pub mod Earlier
 pub mod FacesText
+pub mod Books

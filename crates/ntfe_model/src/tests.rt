@@ -1,6 +1,6 @@
 //! What no clause says: that equal values can be made.
 
-use crate::{Choice, Fold, Heights, Key, List, Nogood, Part, Term, Triangle, Triangulation};
+use crate::{Choice, Heights, Key, List, Nogood, Part, Triangle, Triangulation};
 use std::alloc::AllocError;
 
 #[test]
@@ -37,5 +37,17 @@ fn a_triangulation_is_made_again(rt: HostRuntime) -> Result<(), AllocError> {
     };
     let triangulation = triangulation.try_clone(alloc)?;
     assert!(rt; triangulation.triangles.as_slice().len() == 1);
+    Ok(())
+}
+
+#[test]
+fn a_nogood_is_made_again(rt: HostRuntime) -> Result<(), AllocError> {
+    let alloc = rt.alloc();
+    let nogood = Nogood {
+        parts: List::from_vec(vec![in alloc; Part { face: 2, item: 0 }]?),
+        terms: List::from_vec(Vec::new(alloc)),
+    };
+    let nogood = nogood.try_clone(alloc)?;
+    assert!(rt; nogood.parts.as_slice().len() == 1 && nogood.terms.as_slice().is_empty());
     Ok(())
 }

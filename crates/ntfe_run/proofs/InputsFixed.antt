@@ -26,6 +26,7 @@ use Rattle.lattice_points.specs.declared.fault.PointFault.TheVariants as point
 use Rattle.ntfe_run.specs.Inputs.{IsInputOf, IsRefusalOf}
 use Rattle.ntfe_run.specs.declared.status.Refusal.{Refusal}
 use Rattle.ntfe_run.specs.declared.status.Refusal.TheVariants.{Size, Text, Pair, Points, Unready}
+use Rattle.ntfe_model.proofs.Orders.{precedes_once, before_once}
 
 -- ---- what was read
 
@@ -41,12 +42,6 @@ not_past bs (Some ys) n l r =
     omega (arith, l, e, o)
 
 -- ---- the points and the two-faces
-
-precedes_once : (a b : Vector) → Precedes a b → Precedes b a → ⊥
-precedes_once a b p q = let r : Less ≡ ordering_reverse Less = sym p ∙ (lists_total int_cmp_total).antisymm (numbers a) (numbers b) ∙ ap ordering_reverse q in cc
-
-before_once : (a b c d : ℕ) → IsBefore2 a b c d → IsBefore2 c d a b → ⊥
-before_once a b c d p q = absurd (grind arith)
 
 points_fixed : (p : VertexLists) (xs ys : List Point) → ArePoints p xs → ArePoints p ys → xs ≡ ys
 points_fixed p xs ys h k = listing_unique (λ x y. Precedes x.place y.place) (IsPointOf p) (λ x y a b. precedes_once x.place y.place a b) xs ys h k

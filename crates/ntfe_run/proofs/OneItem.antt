@@ -16,6 +16,7 @@ use Rattle.ntfe_model.specs.declared.triangle.Triangle.{Triangle}
 use Rattle.ntfe_model.specs.declared.triangulation.Triangulation.{Triangulation}
 use Rattle.ntfe_model.proofs.Listings.{Contains-here, Contains-there, listing_unique}
 use Rattle.ntfe_run.proofs.OneTriangle.{IsTriangle, corners, triangle_turned, triangle_fine, differ, only_one, no_back, step_side, is_step, turn_turned, turn_back, turn_last}
+use Rattle.ntfe_model.proofs.Orders.{before_once, below_once}
 
 -- ---- lists of three
 
@@ -72,18 +73,12 @@ unit_third h u a b c k (inr (inl r)) = (subst (IsOf h) r.2 k.points.0, sym ((λ 
 unit_third h u a b c k (inr (inr r)) =
     (subst (IsOf h) r.2 k.points.1, sym ((λ i. turn h (r.1 i) (r.2 i) (r.0 i)) ∙ turn_turned h b c a ∙ turn_turned h c a b) ∙ k.left)
 
--- ---- the order of words and of steps
-
-below_once : (v w : List ℕ) → IsBelow v w → IsBelow w v → ⊥
-below_once v w p q = let r : Less ≡ ordering_reverse Less = sym p ∙ nat_list_cmp_total.antisymm v w ∙ ap ordering_reverse q in cc
+-- ---- the boundary steps
 
 steps_fixed : (h : Patch) (es fs : List (ℕ × ℕ)) → AreSteps h es → AreSteps h fs → es ≡ fs
 steps_fixed h es fs l k =
     let R : ℕ × ℕ → ℕ × ℕ → Type 0 = λ e f. IsBefore2 e.0 e.1 f.0 f.1 in
-    listing_unique R (λ e. IsStep h e.0 e.1) (λ e f p q. strict e.0 e.1 f.0 f.1 p q) es fs l k
-  where
-    strict : (a b c d : ℕ) → IsBefore2 a b c d → IsBefore2 c d a b → ⊥
-    strict a b c d p q = absurd (grind arith)
+    listing_unique R (λ e. IsStep h e.0 e.1) (λ e f p q. before_once e.0 e.1 f.0 f.1 p q) es fs l k
 
 -- ---- the item, where x is the least number
 

@@ -1,5 +1,5 @@
 -- The lines of a pair are the lines of no other pair, and have no fault.
-use Rattle.std.proofs.Common.{◌≡◌, ℕ, ◌+◌, ◌<◌, ◌≤◌, zero, suc, ◌⊎◌, ℤ, pos, negsuc, ◌≤ℤ◌, List, [], ◌∷◌, ◌++◌, length, map, get_or, Option, Some, None, refl, sym, ap, ◌∙◌, subst, append_assoc, inl, inr, Result, Ok, Err, IfOk, IfErr, MatchResult, arith}
+use Rattle.std.proofs.Common.{◌≡◌, ℕ, ◌+◌, ◌<◌, ◌≤◌, zero, suc, ◌⊎◌, ℤ, pos, ◌≤ℤ◌, List, [], ◌∷◌, ◌++◌, length, map, get_or, Option, Some, None, refl, sym, ap, ◌∙◌, subst, append_assoc, inl, inr, Result, Ok, Err, IfOk, IfErr, MatchResult, arith}
 use Rattle.std.specs.Prelude.{codes, unsigned_abs}
 use Rattle.std.specs.List.{AllZip}
 use Rattle.std.proofs.lemmas.Int.{ints}
@@ -11,6 +11,7 @@ use Rattle.pair_text.specs.declared.fault.TextFault.{TextFault}
 use Rattle.pair_text.specs.declared.fault.TextFault.TheVariants.{BadLine, BadNumber, TooLarge, Count, Short, Long, Memory}
 use Rattle.pair_text.specs.Faults.{IsCauseIn}
 use Rattle.pair_text.proofs.Caps.{same_vector}
+use Rattle.ntfe_model.proofs.SmallVectors.{small_size}
 
 -- ---- a line has one meaning
 
@@ -137,10 +138,6 @@ pair_right p all good later line due g d e =
 
 -- ---- a line with what is due has no fault
 
-size_small : (z : ℤ) → negsuc 1022 ≤ℤ z → z ≤ℤ pos 1023 → unsigned_abs z ≤ 1023
-size_small (pos n) l h = omega (arith, ints, h)
-size_small (negsuc n) l h = omega (arith, ints, l)
-
 abbrev AreSmall : List ℤ → Type 0
 AreSmall zs = (k : ℕ) (z : ℤ) → k < length zs → get_or zs k z ≡ z → unsigned_abs z ≤ 1023
 
@@ -149,10 +146,10 @@ count_small n h zero z l e = subst (λ (y : ℤ). unsigned_abs y ≤ 1023) e (om
 count_small n h (suc k) z l e = absurd (omega arith)
 
 vector_small : (v : Vector) → IsSmall v → AreSmall (numbers v)
-vector_small v s zero z l e = subst (λ (y : ℤ). unsigned_abs y ≤ 1023) e (size_small v.x1 s.low1 s.high1)
-vector_small v s (suc zero) z l e = subst (λ (y : ℤ). unsigned_abs y ≤ 1023) e (size_small v.x2 s.low2 s.high2)
-vector_small v s (suc (suc zero)) z l e = subst (λ (y : ℤ). unsigned_abs y ≤ 1023) e (size_small v.x3 s.low3 s.high3)
-vector_small v s (suc (suc (suc zero))) z l e = subst (λ (y : ℤ). unsigned_abs y ≤ 1023) e (size_small v.x4 s.low4 s.high4)
+vector_small v s zero z l e = subst (λ (y : ℤ). unsigned_abs y ≤ 1023) e (small_size v.x1 s.low1 s.high1)
+vector_small v s (suc zero) z l e = subst (λ (y : ℤ). unsigned_abs y ≤ 1023) e (small_size v.x2 s.low2 s.high2)
+vector_small v s (suc (suc zero)) z l e = subst (λ (y : ℤ). unsigned_abs y ≤ 1023) e (small_size v.x3 s.low3 s.high3)
+vector_small v s (suc (suc (suc zero))) z l e = subst (λ (y : ℤ). unsigned_abs y ≤ 1023) e (small_size v.x4 s.low4 s.high4)
 vector_small v s (suc (suc (suc (suc k)))) z l e = absurd (omega arith)
 
 right_fields : (due : Due) (line : Line) (ns : List (List ℕ)) → IsRight due line → HasFields due line.fields ns → (zs : List ℤ) × AreNumbers ns zs × AreSmall zs

@@ -11,7 +11,7 @@ use Rattle.ntfe_model.specs.Points.{IsFaceOf, AreFaces, MeetInTwoFace, points_on
 use Rattle.ntfe_model.specs.declared.face.Face.{Face}
 use Rattle.ntfe_model.specs.declared.point.Point.{Point}
 use Rattle.ntfe_model.proofs.Listings.{Contains-here}
-use Rattle.lattice_points.proofs.ScanLemmas.{listing_nil, listing_append, listing_same}
+use Rattle.ntfe_model.proofs.Listings.{listing_nil, listing_append, listing_same}
 use Rattle.two_faces.specs.Meets.{IsFirst}
 use Rattle.two_faces.proofs.MeetLemmas.{meet_from, first_from, none_from}
 use Rattle.two_faces.specs.Added.{IsFaceWith, AddsFaces}

@@ -3,7 +3,7 @@ use Rattle.ntfe_nums.specs.Vectors.{Vector, numbers, difference}
 use Rattle.ntfe_nums.proofs.Ring.Expression.{var, minus}
 use Rattle.ntfe_nums.proofs.Machine.{AreWithin-four, AreWithin-same, AreWithin-difference, exact}
 use Rattle.ntfe_model.specs.Pairs.{IsSmall}
-use Rattle.face_chart.proofs.FlatLemmas.{small_numbers}
+use Rattle.ntfe_model.proofs.SmallVectors.{small_numbers}
 use Rattle.face_chart.proofs.segment.difference.Goals as goal
 
 part : (bs as' : List ℤ) (b a : Vector) (i : ℕ) → bs ≡ numbers b → as' ≡ numbers a → IsSmall b → IsSmall a

@@ -2,7 +2,7 @@ use Rattle.std.proofs.Common.{◌≡◌, ◌∙◌, sym, ap, arith, get_or, pos,
 use Rattle.ntfe_nums.specs.Vectors.{numbers}
 use Rattle.ntfe_nums.proofs.Machine.{AreWithin-same, AreWithin-four}
 use Rattle.face_chart.specs.Units.{reached_at}
-use Rattle.face_chart.proofs.FlatLemmas.{small_numbers}
+use Rattle.ntfe_model.proofs.SmallVectors.{small_numbers}
 use Rattle.face_chart.proofs.UnitLemmas.{same_bits, reached_from, reached_to}
 use Rattle.face_chart.proofs.units.is_reached.Goals as goal
 

@@ -1,6 +1,6 @@
 use Rattle.std.proofs.Common.{◌≡◌, ◌+◌, ◌*◌, min, sym, ap, ◌∙◌, false, refl}
 use Rattle.std.specs.Str.{all_ascii_digits}
-use Rattle.ntfe_words.proofs.Digits.{digits-more, digits-fail, size-more}
+use Rattle.ntfe_model.proofs.Digits.{digits-more, digits-fail, size-more}
 use Rattle.ntfe_words.proofs.number.magnitude.Goals as goal
 
 pub returns-then-not-is_ascii_digit : goal.returns-then-not-is_ascii_digit
@@ -15,5 +15,5 @@ loop-digit-preserved c =
     let digit = sym c.is_ascii_digit.ensures.value ∙ c.if-not-is_ascii_digit.false in
     record {
       digits = digits-more bs i c.loop-digit-test.true c.loop-digit.invariant.digits digit;
-      size = c.min-size.ensures ∙ ap (λ d. min (c.loop-digit.size * 10 + d) 4294967296) c.from.ensures ∙ size-more bs i c.loop-digit.size c.loop-digit-test.true digit c.loop-digit.invariant.size;
+      size = c.min-size.ensures ∙ ap (λ d. min (c.loop-digit.size * 10 + d) 4294967296) c.from.ensures ∙ size-more 4294967296 bs i c.loop-digit.size c.loop-digit-test.true digit c.loop-digit.invariant.size;
     }

@@ -5,7 +5,7 @@ use Rattle.ntfe_nums.proofs.Ring.{Expression}
 use Rattle.ntfe_nums.proofs.Ring.Expression.{plus, times, var}
 use Rattle.ntfe_nums.proofs.DetLemmas.{dotE, row}
 use Rattle.ntfe_nums.proofs.Machine.{AreBounded, AreWithin-four, exact, fits}
-use Rattle.reflexive_pair.proofs.SmallLemmas.{AreWithin-coordinates}
+use Rattle.ntfe_model.proofs.SmallVectors.{small_coordinates}
 use Rattle.reflexive_pair.proofs.planes.height.Goals as goal
 
 abbrev vars : List ℤ → List ℤ → List ℤ
@@ -27,27 +27,27 @@ abbrev sum2 : Expression
 sum2 = plus (part 0 4) (part 1 5)
 
 pub overflow_mul-result : goal.overflow_mul-result
-overflow_mul-result c = fits w64 (vars c.args.n.now c.coordinates-x.result.now) bounds (bounded _ _ c.requires.large (AreWithin-coordinates c.args.x.now c.coordinates-x.result.now c.requires.small c.coordinates-x.ensures.list)) (part 0 4) refl
+overflow_mul-result c = fits w64 (vars c.args.n.now c.coordinates-x.result.now) bounds (bounded _ _ c.requires.large (small_coordinates c.args.x.now c.coordinates-x.result.now c.requires.small c.coordinates-x.ensures.list)) (part 0 4) refl
 
 pub overflow_mul-result-2 : goal.overflow_mul-result-2
-overflow_mul-result-2 c = fits w64 (vars c.args.n.now c.coordinates-x.result.now) bounds (bounded _ _ c.requires.large (AreWithin-coordinates c.args.x.now c.coordinates-x.result.now c.requires.small c.coordinates-x.ensures.list)) (part 1 5) refl
+overflow_mul-result-2 c = fits w64 (vars c.args.n.now c.coordinates-x.result.now) bounds (bounded _ _ c.requires.large (small_coordinates c.args.x.now c.coordinates-x.result.now c.requires.small c.coordinates-x.ensures.list)) (part 1 5) refl
 
 pub overflow_add-result : goal.overflow_add-result
-overflow_add-result c = fits w64 (vars c.args.n.now c.coordinates-x.result.now) bounds (bounded _ _ c.requires.large (AreWithin-coordinates c.args.x.now c.coordinates-x.result.now c.requires.small c.coordinates-x.ensures.list)) (sum2) refl
+overflow_add-result c = fits w64 (vars c.args.n.now c.coordinates-x.result.now) bounds (bounded _ _ c.requires.large (small_coordinates c.args.x.now c.coordinates-x.result.now c.requires.small c.coordinates-x.ensures.list)) (sum2) refl
 
 pub overflow_mul-result-3 : goal.overflow_mul-result-3
-overflow_mul-result-3 c = fits w64 (vars c.args.n.now c.coordinates-x.result.now) bounds (bounded _ _ c.requires.large (AreWithin-coordinates c.args.x.now c.coordinates-x.result.now c.requires.small c.coordinates-x.ensures.list)) (part 2 6) refl
+overflow_mul-result-3 c = fits w64 (vars c.args.n.now c.coordinates-x.result.now) bounds (bounded _ _ c.requires.large (small_coordinates c.args.x.now c.coordinates-x.result.now c.requires.small c.coordinates-x.ensures.list)) (part 2 6) refl
 
 pub overflow_add-result-2 : goal.overflow_add-result-2
-overflow_add-result-2 c = fits w64 (vars c.args.n.now c.coordinates-x.result.now) bounds (bounded _ _ c.requires.large (AreWithin-coordinates c.args.x.now c.coordinates-x.result.now c.requires.small c.coordinates-x.ensures.list)) (plus sum2 (part 2 6)) refl
+overflow_add-result-2 c = fits w64 (vars c.args.n.now c.coordinates-x.result.now) bounds (bounded _ _ c.requires.large (small_coordinates c.args.x.now c.coordinates-x.result.now c.requires.small c.coordinates-x.ensures.list)) (plus sum2 (part 2 6)) refl
 
 pub overflow_mul-result-4 : goal.overflow_mul-result-4
-overflow_mul-result-4 c = fits w64 (vars c.args.n.now c.coordinates-x.result.now) bounds (bounded _ _ c.requires.large (AreWithin-coordinates c.args.x.now c.coordinates-x.result.now c.requires.small c.coordinates-x.ensures.list)) (part 3 7) refl
+overflow_mul-result-4 c = fits w64 (vars c.args.n.now c.coordinates-x.result.now) bounds (bounded _ _ c.requires.large (small_coordinates c.args.x.now c.coordinates-x.result.now c.requires.small c.coordinates-x.ensures.list)) (part 3 7) refl
 
 pub overflow_add-result-3 : goal.overflow_add-result-3
-overflow_add-result-3 c = fits w64 (vars c.args.n.now c.coordinates-x.result.now) bounds (bounded _ _ c.requires.large (AreWithin-coordinates c.args.x.now c.coordinates-x.result.now c.requires.small c.coordinates-x.ensures.list)) (dotE (row 0) (row 4)) refl
+overflow_add-result-3 c = fits w64 (vars c.args.n.now c.coordinates-x.result.now) bounds (bounded _ _ c.requires.large (small_coordinates c.args.x.now c.coordinates-x.result.now c.requires.small c.coordinates-x.ensures.list)) (dotE (row 0) (row 4)) refl
 
 pub returns : goal.returns
 returns c =
-    exact w64 (vars c.args.n.now c.coordinates-x.result.now) bounds (bounded _ _ c.requires.large (AreWithin-coordinates c.args.x.now c.coordinates-x.result.now c.requires.small c.coordinates-x.ensures.list)) (dotE (row 0) (row 4)) refl
+    exact w64 (vars c.args.n.now c.coordinates-x.result.now) bounds (bounded _ _ c.requires.large (small_coordinates c.args.x.now c.coordinates-x.result.now c.requires.small c.coordinates-x.ensures.list)) (dotE (row 0) (row 4)) refl
     ∙ ap (dot (vector c.args.n.now)) c.coordinates-x.ensures.value

@@ -5,7 +5,7 @@ use Rattle.std.proofs.lemmas.List.Elements.{All-weaker}
 use Rattle.ntfe_model.specs.Pairs.{IsSmall}
 use Rattle.ntfe_model.specs.Points.{IsPointOf, is_tight, place_of_point}
 use Rattle.ntfe_model.specs.declared.face.Face.{Face}
-use Rattle.lattice_points.proofs.BoxLemmas.{inside_small}
+use Rattle.ntfe_model.proofs.SmallVectors.{inside_small}
 use Rattle.two_faces.specs.Added.{AddsFaces}
 use Rattle.two_faces.proofs.ListLemmas.{row_start, entry_next, pair_yes, pair_no, pair_step}
 use Rattle.two_faces.proofs.list.add_faces.Goals as goal

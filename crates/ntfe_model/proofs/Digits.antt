@@ -28,7 +28,7 @@ digit_value-is c d =
     let p = and_parts (leb 48 c) (leb c 57) d in
     omega (arith, digit_value_digit c (leb-true 48 c p.0, leb-true c 57 p.1))
 
--- one digit more behind a size that is cut
-pub size-more : (bs : List ℕ) (i size : ℕ) → i < length bs → is_ascii_digit (get_or bs i 0) ≡ true → size ≡ min (digits_value 10 (take i bs)) 4294967296
-    → min (size * 10 + (get_or bs i 0 - 48)) 4294967296 ≡ min (digits_value 10 (take (i + 1) bs)) 4294967296
-size-more bs i size h d e = omega (arith, digits_value_more 10 bs i h, digit_value-is (get_or bs i 0) d)
+-- one digit more behind a size that is cut at a cap
+pub size-more : (cap : ℕ) (bs : List ℕ) (i size : ℕ) → i < length bs → is_ascii_digit (get_or bs i 0) ≡ true → size ≡ min (digits_value 10 (take i bs)) cap
+    → min (size * 10 + (get_or bs i 0 - 48)) cap ≡ min (digits_value 10 (take (i + 1) bs)) cap
+size-more cap bs i size h d e = omega (arith, digits_value_more 10 bs i h, digit_value-is (get_or bs i 0) d)
