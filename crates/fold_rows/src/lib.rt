@@ -1,0 +1,4 @@
+//! The folds of a fine triangulation of a two-face: one linear form in heights for each inner edge.
+#![tactic(auto)]
+
+
