@@ -1,5 +1,5 @@
 -- The parts of a fold, and how the list of the folds is made.
-use Rattle.std.specs.Prelude.{◌≡◌, ℕ, ◌<◌, ◌≤◌, ◌⊎◌, ℤ, pos, ◌+ℤ◌, ◌-ℤ◌, unsigned_abs, List, [], ◌++◌, All, Contains}
+use Rattle.std.specs.Prelude.{◌≡◌, ℕ, ◌<◌, ◌≤◌, ◌⊎◌, ℤ, pos, ◌+ℤ◌, ◌-ℤ◌, ◌*ℤ◌, slice_index_or, unsigned_abs, List, [], ◌++◌, All, Contains}
 use Rattle.ntfe_nums.specs.Vectors.{Vector, vector_sum, multiple}
 use Rattle.ntfe_model.specs.Lists.{IsListing, IsBefore2}
 use Rattle.ntfe_model.specs.Charts.{Patch, place, IsUnit}
@@ -33,6 +33,10 @@ AreUnits h ts = (t : Triangle) → Contains ts t → IsUnit h t.a t.b t.c
 -- c + d = (2 - n) a + n b
 abbrev pub IsBalance : Vector → Vector → Vector → Vector → ℤ → Type 0
 IsBalance a b c d n = vector_sum c d ≡ vector_sum (multiple (pos 2 -ℤ n) a) (multiple n b)
+
+-- the same in the coordinate at the place i of the lists
+abbrev pub IsFactorAt : List ℤ → List ℤ → List ℤ → List ℤ → ℕ → ℤ → Type 0
+IsFactorAt a b c d i n = slice_index_or c i (pos 0) +ℤ slice_index_or d i (pos 0) ≡ (pos 2 -ℤ n) *ℤ slice_index_or a i (pos 0) +ℤ n *ℤ slice_index_or b i (pos 0)
 
 -- some whole n balances them
 abbrev pub AreBalanced : Vector → Vector → Vector → Vector → Type 0

@@ -1,4 +1,6 @@
 //! The folds of a fine triangulation of a two-face: one linear form in heights for each inner edge.
 #![tactic(auto)]
 
+mod factor;
+
 
