@@ -1,3 +1,5 @@
 pub mod Levels
 pub mod FoldPlanes
 pub mod FactorLemmas
+pub mod SideLemmas
+pub mod EdgeLemmas
