@@ -1,15 +1,13 @@
 -- The fold of an inner edge.
-use Rattle.std.proofs.Common.{◌≡◌, ◌≢◌, ℕ, ◌<◌, ◌≤◌, ◌⊎◌, inl, inr, refl, sym, ap, ◌∙◌, subst, arith, ℤ, pos, ◌+ℤ◌, ◌-ℤ◌, List, w64, to_z, of_z, unsigned_abs}
-use Rattle.std.specs.Prelude.{Contains}
+use Rattle.std.proofs.Common.{◌≡◌, ◌≢◌, ℕ, ◌<◌, ◌≤◌, ◌⊎◌, inl, inr, sym, ap, ◌∙◌, subst, arith, ℤ, pos, ◌+ℤ◌, ◌-ℤ◌, List, w64, to_z, of_z, unsigned_abs}
 use Rattle.std.proofs.lemmas.Int.{ints}
 use Rattle.ntfe_nums.specs.Vectors.{Vector, vector_sum, multiple}
 use Rattle.ntfe_nums.proofs.Machine.{back}
 use Rattle.ntfe_model.specs.Charts.{Patch, axes, place, IsOf, IsUnit}
-use Rattle.ntfe_model.specs.Triangulations.{IsSide, IsRotationOf}
-use Rattle.ntfe_model.specs.Choices.{IsInnerEdge, AreOpposite, IsFoldOf}
+use Rattle.ntfe_model.specs.Choices.{AreOpposite, IsFoldOf}
 use Rattle.ntfe_model.specs.declared.triangle.Triangle.{Triangle}
 use Rattle.ntfe_model.specs.declared.nogood.Fold.{Fold}
-use Rattle.face_chart.proofs.Triples.{positive_apart, third_point, corner_side}
+use Rattle.face_chart.proofs.Triples.{positive_apart}
 use Rattle.face_chart.proofs.Folds.{unit_corner, opposite_balance, opposite_apart, vector_swap}
 use Rattle.fold_rows.specs.Rows.{IsBalance, AreBalanced, IsThird, AreUnits, unspelled, IsFoldBetween}
 

@@ -3,3 +3,4 @@ pub mod FoldPlanes
 pub mod FactorLemmas
 pub mod SideLemmas
 pub mod EdgeLemmas
+pub mod RowLemmas

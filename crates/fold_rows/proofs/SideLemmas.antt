@@ -1,10 +1,10 @@
 -- The triples around a point.
-use Rattle.std.proofs.Common.{◌≡◌, ℕ, ◌+◌, ◌<◌, ◌⊎◌, inl, inr, ⊎_elim, refl, sym, subst, arith, List, [], ◌∷◌, ◌++◌, take, length, get_or}
+use Rattle.std.proofs.Common.{◌≡◌, ℕ, ◌+◌, ◌<◌, ⊎_elim, sym, subst, List, [], ◌∷◌, ◌++◌, take, length, get_or}
 use Rattle.std.specs.Prelude.{Contains}
 use Rattle.std.proofs.lemmas.List.{take_more}
 use Rattle.std.proofs.lemmas.List.Elements.{Contains-append_left, Contains-append_right, Contains-append_cases}
 use Rattle.ntfe_model.specs.declared.triangle.Triangle.{Triangle}
-use Rattle.ntfe_model.proofs.Listings.{Contains-here, Contains-cases, Contains-none}
+use Rattle.ntfe_model.proofs.Listings.{Contains-cases, Contains-none}
 use Rattle.fold_rows.specs.Rows.{HasPoint, AreAround}
 
 only : (t u : Triangle) → Contains (u ∷ []) t → t ≡ u

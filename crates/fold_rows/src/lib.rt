@@ -5,4 +5,6 @@ mod edges;
 mod factor;
 mod sides;
 
+pub use edges::folds;
+
 
