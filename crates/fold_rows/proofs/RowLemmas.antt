@@ -154,7 +154,7 @@ module _ (h : Patch) (x : Triangulation) where
       let P : List Fold → Type 0 = λ rs. AreFolds h x rs × All IsSmallFold rs in
       subst P (sym a.items) (
         listing_same before (λ r. IsFoldOf h x r × Contains (take n (spot_numbers h)) r.a) (IsFoldOf h x) a.added a.listing (λ r p. p.0)
-        (λ r f. (f, (let Q = λ (ms : List ℕ). Contains ms r.a in subst Q (sym (take_all n (spot_numbers h) l)) (fold_points fine r f).0))),
+            (λ r f. (f, (let Q = λ (ms : List ℕ). Contains ms r.a in subst Q (sym (take_all n (spot_numbers h) l)) (fold_points fine r f).0))),
         a.small,
       )
 

@@ -65,7 +65,13 @@ fn fold_at(chart: &Chart, triangles: &[Triangle], a: u32, b: u32) -> Option<Fold
 }
 
 /// Adds the folds of the edges whose lesser point is a.
-fn add_folds(alloc: Global, chart: &Chart, item: &Triangulation, a: u32, folds: &mut Vec<Fold>) -> Result<(), AllocError>
+fn add_folds(
+    alloc: Global,
+    chart: &Chart,
+    item: &Triangulation,
+    a: u32,
+    folds: &mut Vec<Fold>,
+) -> Result<(), AllocError>
     requires fine { IsFine chart.now item.now.triangles }
     ensures { OnOk result (AddsFolds chart.now item.now (λ i j. i ≡ a) folds.old.items folds.new.items) }
 {

@@ -6,5 +6,3 @@ mod factor;
 mod sides;
 
 pub use edges::folds;
-
-

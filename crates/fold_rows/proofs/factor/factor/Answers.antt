@@ -21,7 +21,7 @@ pub factor_at-requires-clause-whole : goal.factor_at-requires-clause-whole
 factor_at-requires-clause-whole c = (
   c.requires.balanced.0,
   balance_at c.args.a.now c.args.b.now c.args.c.now c.args.d.now c.requires.balanced.0 c.coordinates-a.result.now c.coordinates-b.result.now c.coordinates-c.result.now c.coordinates-d.result.now c.loop-i.i
-  c.coordinates-a.ensures.list c.coordinates-b.ensures.list c.coordinates-c.ensures.list c.coordinates-d.ensures.list c.loop-i-test.true c.requires.balanced.1,
+      c.coordinates-a.ensures.list c.coordinates-b.ensures.list c.coordinates-c.ensures.list c.coordinates-d.ensures.list c.loop-i-test.true c.requires.balanced.1,
 )
 
 pub returns-then-a-i-clause-value : goal.returns-then-a-i-clause-value
