@@ -8,7 +8,7 @@ use crate::form::TextForm;
 use crate::head::write_count;
 use crate::lines::{Line, write_items};
 use crate::numbers::{numbers_text, signed_text};
-use io_edge::{LineFault, Sink, write_line};
+use io_edge::{LineFault, Sink, write_text};
 use ntfe_model::{Choice, Heights};
 use star_builder::Star;
 use std::alloc::{AllocError, Global};
@@ -34,7 +34,7 @@ fn write_numbers<K: Sink>(
     ensures { WritesText (K.taken out.old) (K.taken out.new) (K.faults out.old) (K.faults out.new) result (number_line word.now numbers.now) }
 {
     match numbers_text(alloc, word, numbers) {
-        Ok(line) => write_line(&line, out),
+        Ok(line) => write_text(&line, out),
         Err(_) => Err(LineFault::Memory),
     }
 }
@@ -49,7 +49,7 @@ fn write_signed<K: Sink>(
     ensures { WritesText (K.taken out.old) (K.taken out.new) (K.faults out.old) (K.faults out.new) result (signed_line word.now numbers.now) }
 {
     match signed_text(alloc, word, numbers) {
-        Ok(line) => write_line(&line, out),
+        Ok(line) => write_text(&line, out),
         Err(_) => Err(LineFault::Memory),
     }
 }

@@ -7,7 +7,7 @@ ghost use Rattle.class_text.specs.Forms.{form_of};
 use crate::form::TextForm;
 use crate::lines::write_items;
 use crate::numbers::count_text;
-use io_edge::{LineFault, Sink, write_line};
+use io_edge::{LineFault, Sink, write_text};
 use ntfe_model::{Pair, Push, Vec4};
 use std::alloc::Global;
 
@@ -21,7 +21,7 @@ pub fn write_count<K: Sink>(
     ensures { WritesText (K.taken out.old) (K.taken out.new) (K.faults out.old) (K.faults out.new) result (number_line word.now (count ∷ [])) }
 {
     match count_text(alloc, word, count) {
-        Ok(line) => write_line(&line, out),
+        Ok(line) => write_text(&line, out),
         Err(_) => Err(LineFault::Memory),
     }
 }
@@ -52,8 +52,8 @@ fn write_push<K: Sink>(push: Push, out: &mut K) -> Result<(), LineFault>
     ensures { WritesText (K.taken out.old) (K.taken out.new) (K.faults out.old) (K.faults out.new) result (push_line push) }
 {
     match push {
-        Push::Up => write_line("push up\n", out),
-        Push::Down => write_line("push down\n", out),
+        Push::Up => write_text("push up\n", out),
+        Push::Down => write_text("push down\n", out),
     }
 }
 
@@ -62,7 +62,7 @@ fn write_stars_mark<K: Sink>(stars: bool, out: &mut K) -> Result<(), LineFault>
     ensures { WritesText (K.taken out.old) (K.taken out.new) (K.faults out.old) (K.faults out.new) result (stars_line stars) }
 {
     if stars {
-        write_line("stars\n", out)
+        write_text("stars\n", out)
     } else {
         Ok(())
     }
@@ -73,7 +73,7 @@ fn write_stars_mark<K: Sink>(stars: bool, out: &mut K) -> Result<(), LineFault>
 pub fn write_head<K: Sink>(alloc: Global, form: &TextForm, out: &mut K) -> Result<(), LineFault>
     ensures { WritesText (K.taken out.old) (K.taken out.new) (K.faults out.old) (K.faults out.new) result (head_text form.now.pair (form_of form.now)) }
 {
-    write_line("ntfe 1\n", out)?;
+    write_text("ntfe 1\n", out)?;
     write_pair_lines(alloc, &form.pair, out)?;
     write_push(form.push, out)?;
     write_stars_mark(form.stars, out)

@@ -2,7 +2,7 @@
 ghost use Rattle.std.specs.Prelude.{◌≡◌, ℕ, List, IfOk, string_bytes, flat_map};
 ghost use Rattle.io_edge.specs.Lines.{WritesText};
 
-use io_edge::{LineFault, Sink, write_line};
+use io_edge::{LineFault, Sink, write_text};
 use std::alloc::{AllocError, Global};
 
 /// What is written as a line.
@@ -20,7 +20,7 @@ pub fn write_item<T: Line, K: Sink>(alloc: Global, item: &T, out: &mut K) -> Res
     ensures { WritesText (K.taken out.old) (K.taken out.new) (K.faults out.old) (K.faults out.new) result (T.line item.now) }
 {
     match item.text(alloc) {
-        Ok(line) => write_line(&line, out),
+        Ok(line) => write_text(&line, out),
         Err(_) => Err(LineFault::Memory),
     }
 }

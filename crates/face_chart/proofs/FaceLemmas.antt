@@ -15,7 +15,7 @@ use Rattle.ntfe_model.specs.declared.face.Face.{Face}
 use Rattle.ntfe_model.proofs.Listings.{listing_range}
 use Rattle.face_chart.specs.Tables.{patch, place_at, AreKnown}
 use Rattle.face_chart.proofs.PatchLemmas.{of_numbers, place_of, numbers_back}
-use Rattle.face_chart.specs.Steps.{AreApart}
+use Rattle.ntfe_model.specs.Charts.{AreApart}
 use Rattle.ntfe_model.proofs.SmallVectors.{inside_small}
 use Rattle.ntfe_model.proofs.Orders.{precedes_once}
 

@@ -17,11 +17,11 @@ use Rattle.ntfe_model.specs.declared.triangle.Triangle.{Triangle}
 use Rattle.ntfe_model.specs.declared.triangulation.Triangulation.{Triangulation}
 use Rattle.ntfe_model.specs.declared.nogood.Fold.{Fold}
 use Rattle.ntfe_model.proofs.Listings.{Contains-here, Contains-there, Contains-cases, Contains-none, AllPairs-head, AllPairs-tail, All-from_contains, listing_unique}
-use Rattle.face_chart.proofs.Areas.{sides}
-use Rattle.face_chart.proofs.Triples.{Decided, decide_number, decide_both, decide_is_side, in_sides, from_sides}
+use Rattle.ntfe_model.proofs.Areas.{sides}
+use Rattle.ntfe_model.proofs.Triples.{Decided, decide_number, decide_both, decide_is_side, in_sides, from_sides}
 use Rattle.face_chart.proofs.Walk.{with_step_only, with_step_has, with_step_keeps, any_contains}
 use Rattle.face_chart.proofs.WordExists.{Earlier, contains_any, word_from_steps}
-use Rattle.face_chart.proofs.Folds.{fold_exists, fold_edge, fold_unique}
+use Rattle.ntfe_model.proofs.Folds.{fold_exists, fold_edge, fold_unique}
 
 -- ---- the order of steps
 

@@ -5,7 +5,7 @@ use Rattle.ntfe_nums.specs.Vectors.{Vector, numbers, vector_sum, difference, mul
 use Rattle.ntfe_nums.proofs.Ring.{ring}
 use Rattle.ntfe_nums.proofs.Ring.Expression.{var, plus, minus, times}
 use Rattle.ntfe_model.specs.Charts.{IsOnSegment}
-use Rattle.face_chart.proofs.PlaneNumbers.{cancel, negative_product}
+use Rattle.ntfe_model.proofs.PlaneNumbers.{cancel, negative_product}
 
 -- ---- the square of a difference
 

@@ -12,9 +12,9 @@ use Rattle.ntfe_model.specs.Charts.{Patch, axes, place, reached, IsOf, IsUnit}
 use Rattle.ntfe_nums.proofs.Machine.{back}
 use Rattle.face_chart.specs.declared.units.Multiples.{Multiples}
 use Rattle.face_chart.specs.Units.{IsReached, IsUnitArea, reached_at}
-use Rattle.face_chart.proofs.PlaneNumbers.{cancel, sign_positive, area_second, area_third, area_multiple}
+use Rattle.ntfe_model.proofs.PlaneNumbers.{cancel, sign_positive, area_second, area_third, area_multiple}
 use Rattle.face_chart.proofs.QuotientLemmas.{exact_quotient}
-use Rattle.face_chart.proofs.UnitTriples.{area_of, unit_area, unit_areas}
+use Rattle.ntfe_model.proofs.UnitTriples.{area_of, unit_area, unit_areas}
 
 -- ---- a loop over a list that is known under another name
 

@@ -14,11 +14,11 @@ use Rattle.ntfe_model.specs.declared.triangulation.Triangulation.{Triangulation}
 use Rattle.ntfe_model.specs.Words.{is_same_step, is_before, with_step, after_side, written, Closes, IsTriangulation, IsWordOf}
 use Rattle.ntfe_model.specs.declared.triangle.Triangle.{Triangle}
 use Rattle.ntfe_model.proofs.Listings.{Contains-here, Contains-there, Contains-cases, Contains-none, AllPairs-head, AllPairs-tail}
-use Rattle.face_chart.proofs.Areas.{AreDistinct, sides}
-use Rattle.face_chart.proofs.Triples.{Decided, decide_triple_of, decide_is_side, AreThree, side_same, same_back, same_self, corner_next, corner_side, third_point, side_of_triple_of, AreDifferent, distinct_sides}
+use Rattle.ntfe_model.proofs.Areas.{AreDistinct, sides}
+use Rattle.ntfe_model.proofs.Triples.{Decided, decide_triple_of, decide_is_side, AreThree, side_same, same_back, same_self, corner_next, corner_side, third_point, side_of_triple_of, AreDifferent, distinct_sides}
 use Rattle.face_chart.proofs.Walk.{written_corner, corner_sides, Waits, waits_next, waits_first, after_only, after_keeps, with_step_only}
 use Rattle.face_chart.proofs.WordLemmas.{corner_in, walk_word}
-use Rattle.face_chart.proofs.Folds.{unit_three}
+use Rattle.ntfe_model.proofs.Folds.{unit_three}
 
 abbrev Step : Type 0
 Step = ℕ × ℕ

@@ -11,10 +11,10 @@ use Rattle.ntfe_model.specs.Words.{after_side, written, Closes, IsTriangulation,
 use Rattle.ntfe_model.specs.declared.triangle.Triangle.{Triangle}
 use Rattle.ntfe_model.specs.declared.triangulation.Triangulation.{Triangulation}
 use Rattle.ntfe_model.proofs.Listings.{Contains-here, Contains-there}
-use Rattle.face_chart.proofs.ItemLemmas.{steps_fixed}
-use Rattle.face_chart.proofs.Triples.{side_same, same_back, same_self, corner_same, side_of_triple_of}
+use Rattle.ntfe_model.proofs.Items.{steps_fixed}
+use Rattle.ntfe_model.proofs.Triples.{side_same, same_back, same_self, corner_same, side_of_triple_of}
 use Rattle.face_chart.proofs.Walk.{written_corner, walk_reaches}
-use Rattle.face_chart.proofs.Folds.{third_fixed, unit_corner}
+use Rattle.ntfe_model.proofs.Folds.{third_fixed, unit_corner}
 
 -- ---- a set fixes its walk
 

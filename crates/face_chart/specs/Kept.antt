@@ -1,7 +1,7 @@
 -- What a chart keeps beside the points of its face.
 use Rattle.std.specs.Prelude.{ℕ, ◌<◌, ℤ, List, AllPairs}
 use Rattle.ntfe_model.specs.Charts.{Patch, spot_numbers, AreSteps}
-use Rattle.face_chart.specs.Steps.{AreApart}
+use Rattle.ntfe_model.specs.Charts.{AreApart}
 use Rattle.face_chart.specs.Units.{IsUnitArea}
 
 -- the points have rising numbers and different places; u is the area of the unit triples, and es are the boundary steps

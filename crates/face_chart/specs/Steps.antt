@@ -1,16 +1,12 @@
 -- What a boundary step asks of each point, and how the list of the boundary steps is made.
 use Rattle.std.specs.Prelude.{◌≡◌, ◌≢◌, ℕ, ◌^◌, ◌≤◌, negsuc, unsigned_abs, List, ◌++◌}
 use Rattle.ntfe_model.specs.Lists.{IsListing, IsBefore2}
-use Rattle.ntfe_model.specs.Charts.{Patch, place, turn, IsOf, IsOnSegment, IsStep}
+use Rattle.ntfe_model.specs.Charts.{Patch, place, turn, IsOnSegment, IsStep}
 use Rattle.face_chart.specs.declared.segment.Share.{Share}
 
 pub record IsSmallShare (m : Share) : Type 0 where
   pub whole : unsigned_abs m.n ≤ 2 ^ 24
   pub part : unsigned_abs m.s ≤ 2 ^ 24
-
--- no two points of the face lie in one place
-abbrev pub AreApart : Patch → Type 0
-AreApart h = (a b : ℕ) → IsOf h a → IsOf h b → place h a ≡ place h b → a ≡ b
 
 -- the point p neither lies to the right of the step from a to b, nor between its ends
 pub record IsClear (h : Patch) (a b p : ℕ) : Type 0 where

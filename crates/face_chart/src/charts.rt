@@ -1,7 +1,7 @@
 //! The chart of a two-face.
 ghost use Rattle.std.specs.Prelude.{◌≡◌, ◌<◌, ◌↔◌, AllPairs, IfOk, IsTrue};
 ghost use Rattle.ntfe_model.specs.Charts.{spot_numbers, IsOf, place, turn, IsUnit, AreSteps};
-ghost use Rattle.face_chart.specs.Steps.{AreApart};
+ghost use Rattle.ntfe_model.specs.Charts.{AreApart};
 ghost use Rattle.ntfe_model.specs.Pairs.{IsSmall};
 
 use crate::steps::boundary_steps;

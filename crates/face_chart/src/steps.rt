@@ -1,7 +1,8 @@
 //! The boundary steps of a two-face, by their definition.
 ghost use Rattle.std.specs.Prelude.{◌≡◌, ◌≢◌, ◌<◌, true, false, AllPairs, IfOk, OnOk};
 ghost use Rattle.ntfe_model.specs.Charts.{place, spot_numbers, IsOf, IsStep, AreSteps};
-ghost use Rattle.face_chart.specs.Steps.{AreApart, IsClear, AddsSteps};
+ghost use Rattle.face_chart.specs.Steps.{IsClear, AddsSteps};
+ghost use Rattle.ntfe_model.specs.Charts.{AreApart};
 
 use crate::segment::is_on_segment;
 use crate::table::Table;

@@ -1,12 +1,11 @@
 -- Texts that are written one after the other.
-use Rattle.std.proofs.Common.{◌≡◌, ◌∙◌, refl, subst, append_assoc, ℕ, ◌≤◌, List, [], ◌++◌, Result, Ok, Err, arith}
+use Rattle.std.proofs.Common.{◌≡◌, ◌∙◌, subst, append_assoc, ℕ, List, [], ◌++◌, Result, Ok, Err, arith}
 use Rattle.std.specs.Prelude.{Option}
 use Rattle.std.proofs.KnownBytes.{Appends-trans, Appends-nil}
-use Rattle.io_edge.specs.Causes.{AppendsPrefix, Rose}
 use Rattle.io_edge.specs.Lines.{WritesText}
 use Rattle.io_edge.specs.declared.line_fault.LineFault.{LineFault}
-use Rattle.io_edge.specs.declared.line_fault.LineFault.TheVariants.{Write, Memory}
-use Rattle.io_edge.proofs.Pieces.{prefix_next, prefix_whole, prefix_none, prefix_more}
+use Rattle.io_edge.specs.declared.line_fault.LineFault.TheVariants.{Memory}
+use Rattle.io_edge.proofs.Pieces.{prefix_next, prefix_whole, prefix_more}
 
 -- nothing
 pub writes_nothing : (a : Option (List ℕ)) (f : ℕ) → WritesText a a f f (Ok tt) []

@@ -17,7 +17,7 @@ mod tests;
 pub use edges::{ReadEdge, WriteEdge};
 pub use gate::{Gate, OpenGate};
 pub use line_fault::LineFault;
-pub use lines::write_line;
+pub use lines::write_text;
 pub use memory_sink::MemorySink;
 pub use memory_source::MemorySource;
 pub use piece::write_piece;

@@ -3,3 +3,11 @@ pub mod Examples
 pub mod Listings
 pub mod Orders
 pub mod SmallVectors
+pub mod PlaneNumbers
+pub mod UnitTriples
+pub mod Areas
+pub mod Triples
+pub mod Items
+pub mod Folds
+pub mod Levels
+pub mod FoldPlanes

@@ -38,6 +38,10 @@ abbrev pub place : Patch → ℕ → Vector
 place [] k = origin
 place (s ∷ h) k = cond (s.number == k) s.place (place h k)
 
+-- no two points of the face lie in one place
+abbrev pub AreApart : Patch → Type 0
+AreApart h = (a b : ℕ) → IsOf h a → IsOf h b → place h a ≡ place h b → a ≡ b
+
 -- ---- the turn
 
 -- the coordinate pairs, in the order in which they are tried

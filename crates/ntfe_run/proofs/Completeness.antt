@@ -107,7 +107,7 @@ pub complete : (words : List (List ℕ)) (left left' : Option (List ℕ)) (sourc
     → HasAnswerCause words left left' source source' sink sink' status → IsComplete words left source source' sink sink' status
 complete words left left' source source' sink sink' Done c a n m = inl refl
 complete words left left' source source' sink sink' Memory c a n m = inr refl
-complete words left left' source source' sink sink' Usage c a n m = absurd (c (a.asked, a.means))
+complete words left left' source source' sink sink' Usage c a n m = absurd (c.0 (a.asked, a.means))
 complete words left left' source source' sink sink' ReadFault c a n m = absurd (n c.4)
 complete words left left' source source' sink sink' WriteFault c a n m = absurd (m c.4)
 complete words left left' source source' sink sink' (Refused (Size limit)) c a n m = absurd (no_refusal words left left' a (Size limit) c.4)

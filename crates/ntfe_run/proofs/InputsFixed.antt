@@ -1,14 +1,10 @@
 -- The bytes of an input are those of one input only.
 use Rattle.std.proofs.Common.{◌≡◌, ◌≢◌, ◌∙◌, refl, sym, ap, subst, arith, ℕ, ◌+◌, ◌<◌, ◌≤◌, ℤ, pos, ◌+ℤ◌, ◌-ℤ◌, ◌*ℤ◌, ◌≤ℤ◌, List, ◌++◌, length, Some, None}
 use Rattle.std.specs.Prelude.{Option, All, Any}
-use Rattle.std.specs.Ordering.{ordering_reverse}
-use Rattle.std.specs.declared.cmp.Ordering.TheVariants.{Less}
-use Rattle.std.specs.Cmp.Lexicographic.{lists_total}
-use Rattle.std.proofs.lemmas.Cmp.{int_cmp_total}
 use Rattle.std.proofs.lemmas.Int.{ints}
 use Rattle.std.proofs.lemmas.List.{append-nil, length-append}
 use Rattle.io_edge.specs.Reading.{ReadsAll, ReadsPast}
-use Rattle.ntfe_nums.specs.Vectors.{Vector, Precedes, coordinate, numbers}
+use Rattle.ntfe_nums.specs.Vectors.{Vector, Precedes, coordinate}
 use Rattle.ntfe_model.specs.Lists.{IsBefore2}
 use Rattle.ntfe_model.specs.Pairs.{VertexLists}
 use Rattle.ntfe_model.specs.PairText.{lines_of}

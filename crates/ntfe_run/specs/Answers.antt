@@ -137,12 +137,16 @@ abbrev pub HasDone : List (List ℕ) → Option (List ℕ) → Option (List ℕ)
 HasDone words left left' source source' sink sink' status =
     (c : Command) × (task : Task) × IsMeaning words c × IsTaskOf c task × HasTaskCause task left left' source source' sink sink' status
 
+-- nothing was read: the source is as it was
+abbrev pub IsUntouched : Option (List ℕ) → Option (List ℕ) → ℕ → ℕ → Type 0
+IsUntouched left left' source source' = (left' ≡ left) × (source' ≡ source)
+
 -- when each status ends a run
 abbrev pub HasAnswerCause : List (List ℕ) → Option (List ℕ) → Option (List ℕ) → ℕ → ℕ → ℕ → ℕ → Status → Type 0
-HasAnswerCause words left left' source source' sink sink' Usage = ¬ (HasMeaning words)
+HasAnswerCause words left left' source source' sink sink' Usage = (¬ (HasMeaning words)) × IsUntouched left left' source source'
 HasAnswerCause words left left' source source' sink sink' Memory = ⊤
 HasAnswerCause words left left' source source' sink sink' (Refused (Unready stage)) =
-    ((stage ≡ 6) × IsUnbuilt words) ⊎ HasDone words left left' source source' sink sink' (Refused (Unready stage))
+    ((stage ≡ 6) × IsUnbuilt words × IsUntouched left left' source source') ⊎ HasDone words left left' source source' sink sink' (Refused (Unready stage))
 HasAnswerCause words left left' source source' sink sink' status = HasDone words left left' source source' sink sink' status
 
 -- what the sink took in a run

@@ -4,9 +4,9 @@ ghost use Rattle.io_edge.specs.Lines.{WritesText};
 ghost use Rattle.ntfe_run.specs.Messages.{line_message, equal_message, text_message, pair_message, point_message, refusal_message, answer_message, message_line};
 
 use crate::part::Part::{Number, Signed, Text};
-use crate::part::{write_fixed, write_parts};
+use crate::part::write_parts;
 use crate::status::{Refusal, Status};
-use io_edge::{LineFault, Sink};
+use io_edge::{LineFault, Sink, write_text};
 use lattice_points::PointFault;
 use pair_text::TextFault;
 use reflexive_pair::PairFault;
@@ -33,8 +33,8 @@ fn write_text_message<E: Sink>(fault: TextFault, err: &mut E) -> Result<(), Line
         TextFault::TooLarge { line } => write_line_message(line, ": number too large", err),
         TextFault::Count { line } => write_line_message(line, ": count not from 5 to 64", err),
         TextFault::Long { line } => write_line_message(line, ": input goes on", err),
-        TextFault::Short => write_fixed("input ends early", err),
-        TextFault::Memory => write_fixed("out of memory", err),
+        TextFault::Short => write_text("input ends early", err),
+        TextFault::Memory => write_text("out of memory", err),
     }
 }
 
@@ -136,7 +136,7 @@ fn write_point_message<E: Sink>(fault: &PointFault, err: &mut E) -> Result<(), L
         PointFault::TooMany { count } => {
             write_parts(&[Number(u64::from(*count)), Text(" points")], err)
         }
-        PointFault::Memory => write_fixed("out of memory", err),
+        PointFault::Memory => write_text("out of memory", err),
     }
 }
 
@@ -170,11 +170,11 @@ fn write_answer_message<E: Sink>(status: &Status, err: &mut E) -> Result<(), Lin
 {
     match status {
         Status::Done => Ok(()),
-        Status::Usage => write_fixed(USAGE, err),
+        Status::Usage => write_text(USAGE, err),
         Status::Refused(refusal) => write_refusal_message(refusal, err),
-        Status::Memory => write_fixed("out of memory", err),
-        Status::ReadFault => write_fixed("read failed", err),
-        Status::WriteFault => write_fixed("write failed", err),
+        Status::Memory => write_text("out of memory", err),
+        Status::ReadFault => write_text("read failed", err),
+        Status::WriteFault => write_text("write failed", err),
     }
 }
 
@@ -183,9 +183,9 @@ fn write_told<E: Sink>(status: &Status, err: &mut E) -> Result<(), LineFault>
     ensures text { WritesText (E.taken err.old) (E.taken err.new) (E.faults err.old) (E.faults err.new) result (codes "ntfe: " ++ (answer_message status.now ++ codes "\n")) }
     ensures fault { IfErr result (λ e. e ≡ LineFault.Write) }
 {
-    write_fixed("ntfe: ", err)?;
+    write_text("ntfe: ", err)?;
     write_answer_message(status, err)?;
-    write_fixed("\n", err)
+    write_text("\n", err)
 }
 
 /// Writes the line that tells of the answer; nothing where all was done. Takes no memory.

@@ -5,7 +5,7 @@ ghost use Rattle.ntfe_model.specs.RunText.{vector_line, spaced};
 ghost use Rattle.ntfe_model.specs.FacesText.{numbered, point_line, face_line};
 
 use class_text::{append_number, append_numbers, append_signed};
-use io_edge::{LineFault, Sink, write_line};
+use io_edge::{LineFault, Sink, write_text};
 use ntfe_model::{Face, Point};
 use std::alloc::{AllocError, Global};
 
@@ -73,7 +73,7 @@ fn write_numbered_line<T: NumberedLine, K: Sink>(
     ensures { WritesText (K.taken out.old) (K.taken out.new) (K.faults out.old) (K.faults out.new) result (T.line number item.now) }
 {
     match item.text(alloc, number) {
-        Ok(line) => write_line(&line, out),
+        Ok(line) => write_text(&line, out),
         Err(_) => Err(LineFault::Memory),
     }
 }

@@ -3,7 +3,7 @@ ghost use Rattle.std.specs.Prelude.{◌≡◌, flat_map, IfErr};
 ghost use Rattle.io_edge.specs.Lines.{WritesText};
 ghost use Rattle.ntfe_run.specs.Parts.{part_text};
 
-use io_edge::{LineFault, Sink, write_piece};
+use io_edge::{LineFault, Sink, write_text};
 use itoa::Buffer;
 
 /// A part of a message.
@@ -17,31 +17,20 @@ pub enum Part<'a> {
     Signed(i128),
 }
 
-/// Writes fixed text.
-pub fn write_fixed<E: Sink>(text: &str, err: &mut E) -> Result<(), LineFault>
-    ensures text { WritesText (E.taken err.old) (E.taken err.new) (E.faults err.old) (E.faults err.new) result text.now }
-    ensures fault { IfErr result (λ e. e ≡ LineFault.Write) }
-{
-    match write_piece(err, text.as_bytes()) {
-        Ok(()) => Ok(()),
-        Err(_) => Err(LineFault::Write),
-    }
-}
-
 /// Writes one part.
 pub fn write_part<E: Sink>(part: Part<'_>, err: &mut E) -> Result<(), LineFault>
     ensures text { WritesText (E.taken err.old) (E.taken err.new) (E.faults err.old) (E.faults err.new) result (part_text part.entry) }
     ensures fault { IfErr result (λ e. e ≡ LineFault.Write) }
 {
     match part {
-        Part::Text(text) => write_fixed(text, err),
+        Part::Text(text) => write_text(text, err),
         Part::Number(number) => {
             let mut buffer = Buffer::new();
-            write_fixed(buffer.format(number), err)
+            write_text(buffer.format(number), err)
         }
         Part::Signed(number) => {
             let mut buffer = Buffer::new();
-            write_fixed(buffer.format(number), err)
+            write_text(buffer.format(number), err)
         }
     }
 }

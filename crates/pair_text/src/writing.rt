@@ -16,61 +16,46 @@ pub fn write_pair(alloc: Global, pair: &Pair, out: &mut Vec<u8>) -> Result<(), A
     ensures text { IsPairText (pair_lines pair.now) pair.now }
 {
     let mut text = String::new(alloc);
-    append_list(alloc, &mut text, "vertices", pair.vertices())?;
-    append_list(alloc, &mut text, "dual", pair.dual())?;
+    append_list(&mut text, "vertices", pair.vertices())?;
+    append_list(&mut text, "dual", pair.dual())?;
     out.extend_from_slice(text.as_bytes())
 }
 
 /// Appends the lines of one list.
-fn append_list(
-    alloc: Global,
-    text: &mut String,
-    word: &str,
-    vectors: &[Vec4],
-) -> Result<(), AllocError>
+fn append_list(text: &mut String, word: &str, vectors: &[Vec4]) -> Result<(), AllocError>
     ensures { OnOk result (string_bytes text.new ≡ string_bytes text.old ++ list_lines word.now vectors.now) }
 {
     let count = vectors.len();
-    let head = format!(in alloc; "{word} {count}\n")?;
-    text.push_str(&head)?;
+    write!(text, "{word} {count}\n")?;
     for vector in vectors {
-        append_vector(alloc, text, vector)?;
+        append_vector(text, vector)?;
     }
     Ok(())
 }
 
 /// Appends the line of a vector.
-fn append_vector(alloc: Global, text: &mut String, vector: &Vec4) -> Result<(), AllocError>
+fn append_vector(text: &mut String, vector: &Vec4) -> Result<(), AllocError>
     ensures { OnOk result (string_bytes text.new ≡ string_bytes text.old ++ vector_line vector.now) }
 {
     let x = vector.coordinates();
-    append_four(alloc, text, x[0], x[1], x[2], x[3])
+    append_four(text, x[0], x[1], x[2], x[3])
 }
 
 /// Appends the line of four numbers.
-fn append_four(
-    alloc: Global,
-    text: &mut String,
-    a: i64,
-    b: i64,
-    c: i64,
-    d: i64,
-) -> Result<(), AllocError>
+fn append_four(text: &mut String, a: i64, b: i64, c: i64, d: i64) -> Result<(), AllocError>
     ensures { OnOk result (string_bytes text.new ≡ string_bytes text.old ++ vector_line (record { x1 = a; x2 = b; x3 = c; x4 = d })) }
 {
-    let first = format!(in alloc; "{a}")?;
-    text.push_str(&first)?;
-    append_spaced(alloc, text, b)?;
-    append_spaced(alloc, text, c)?;
-    append_spaced(alloc, text, d)?;
+    write!(text, "{a}")?;
+    append_spaced(text, b)?;
+    append_spaced(text, c)?;
+    append_spaced(text, d)?;
     text.push('\n')?;
     Ok(())
 }
 
 /// Appends a space and a number.
-fn append_spaced(alloc: Global, text: &mut String, number: i64) -> Result<(), AllocError>
+fn append_spaced(text: &mut String, number: i64) -> Result<(), AllocError>
     ensures { OnOk result (string_bytes text.new ≡ string_bytes text.old ++ spaced (signed_decimal number)) }
 {
-    let piece = format!(in alloc; " {number}")?;
-    text.push_str(&piece)
+    write!(text, " {number}")
 }

@@ -1,5 +1,5 @@
 -- The answer of the stated solver is determined, so a solve answers exactly where the answer is due.
-use Rattle.std.proofs.Common.{◌≡◌, ℕ, zero, suc, ◌+◌, ◌<◌, ◌≤◌, ◌⊎◌, inl, inr, refl, sym, ap, ◌∙◌, subst, arith, ℤ, List, [], ◌∷◌, length, Some, None, Option}
+use Rattle.std.proofs.Common.{◌≡◌, ℕ, ◌+◌, ◌<◌, ◌≤◌, ◌⊎◌, inl, inr, refl, sym, ap, ◌∙◌, subst, arith, ℤ, List, [], ◌∷◌, length, Some, None, Option}
 use Rattle.std.specs.Prelude.{slice_get}
 use Rattle.ntfe_model.specs.Solver.{Table, start_table, move_of, table_numbers, first_wide, scaling_numbers, shown_step, IsRun, IsNarrow, Reaches, IsScaling, IsFeasible, IsInfeasible, IsWideTable, IsWideScaling, IsWide}
 use Rattle.ntfe_model.specs.Solver.Move.{feasible as at_ease, infeasible as at_odds}
@@ -127,7 +127,7 @@ answers_feasible columns rs width Feasible (infeasible ms) hs w h f = absurd h
 answers_feasible columns rs width Infeasible (infeasible ms) hs w h f = absurd (one_answer columns rs (Some width) (Some width) hs ms f h)
 answers_feasible columns rs width Infeasible unsolved hs w h f = absurd h
 answers_feasible columns rs width Infeasible (feasible is) hs w h f = absurd h
-answers_feasible columns rs width (Wide step number) a hs w h f = absurd (feasible_not_wide columns rs width hs step number w f h)
+answers_feasible columns rs width (Wide step number) a hs w h f = absurd (feasible_not_wide columns rs width hs step number w f h.0)
 
 pub answers_infeasible : (columns : ℕ) (rs : List (List ℤ)) (width : ℕ) (s : Solved) (a : Answer) (ms : List (ℕ × ℤ))
     → HasSolved columns rs width s a → IsInfeasible columns rs (Some width) ms → (s ≡ Infeasible) × (a ≡ infeasible ms)
@@ -137,7 +137,7 @@ answers_infeasible columns rs width Infeasible (feasible hs) ms h f = absurd h
 answers_infeasible columns rs width Feasible (feasible hs) ms h f = absurd (one_answer columns rs (Some width) (Some width) hs ms h f)
 answers_infeasible columns rs width Feasible unsolved ms h f = absurd h
 answers_infeasible columns rs width Feasible (infeasible ns) ms h f = absurd h
-answers_infeasible columns rs width (Wide step number) a ms h f = absurd (infeasible_not_wide columns rs width ms step number f h)
+answers_infeasible columns rs width (Wide step number) a ms h f = absurd (infeasible_not_wide columns rs width ms step number f h.0)
 
 pub answers_wide : (columns : ℕ) (rs : List (List ℤ)) (width : ℕ) (s : Solved) (a : Answer) (step : ℕ) (number : ℤ) → AreRows columns rs
     → HasSolved columns rs width s a → IsWide columns rs width step number → s ≡ Wide step number
@@ -147,4 +147,4 @@ answers_wide columns rs width Feasible (infeasible ms) step number w h f = absur
 answers_wide columns rs width Infeasible (infeasible ms) step number w h f = absurd (infeasible_not_wide columns rs width ms step number h f)
 answers_wide columns rs width Infeasible unsolved step number w h f = absurd h
 answers_wide columns rs width Infeasible (feasible hs) step number w h f = absurd h
-answers_wide columns rs width (Wide k y) a step number w h f = let e = wide_same columns rs width k step y number w h f in λ i. Wide (e.0 i) (e.1 i)
+answers_wide columns rs width (Wide k y) a step number w h f = let e = wide_same columns rs width k step y number w h.0 f in λ i. Wide (e.0 i) (e.1 i)

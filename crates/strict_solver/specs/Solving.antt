@@ -24,7 +24,7 @@ HasSolved columns rs width Feasible (infeasible ms) = ⊥
 HasSolved columns rs width Infeasible (infeasible ms) = IsInfeasible columns rs (Some width) ms
 HasSolved columns rs width Infeasible unsolved = ⊥
 HasSolved columns rs width Infeasible (feasible hs) = ⊥
-HasSolved columns rs width (Wide step number) a = IsWide columns rs width step number
+HasSolved columns rs width (Wide step number) a = IsWide columns rs width step number × (a ≡ unsolved)
 
 -- the sum of the multipliers times what f says of their rows
 abbrev pub weighted_sum : List (ℕ × ℤ) → (ℕ → ℤ) → ℤ

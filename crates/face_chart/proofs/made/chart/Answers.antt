@@ -3,7 +3,7 @@ use Rattle.std.specs.Prelude.{All, AllPairs, IfOk}
 use Rattle.ntfe_nums.specs.Vectors.{Vector}
 use Rattle.ntfe_model.specs.Pairs.{IsSmall}
 use Rattle.ntfe_model.specs.Charts.{Patch, spot_numbers}
-use Rattle.face_chart.specs.Steps.{AreApart}
+use Rattle.ntfe_model.specs.Charts.{AreApart}
 use Rattle.face_chart.proofs.FaceLemmas.{places, shape_small, known_read, patch_read, patch_rises, shape_apart}
 use Rattle.face_chart.proofs.made.chart.Goals as goal
 

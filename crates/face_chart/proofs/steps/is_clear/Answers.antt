@@ -2,8 +2,8 @@ use Rattle.std.proofs.Common.{◌≡◌, ◌≢◌, sym, subst, ℤ, pos, negsuc
 use Rattle.ntfe_nums.specs.Vectors.{Vector, sign}
 use Rattle.ntfe_model.specs.Charts.{IsOnSegment}
 use Rattle.face_chart.proofs.FlatLemmas.{negative_from_test, not_negative_from_test}
-use Rattle.face_chart.proofs.PlaneNumbers.{sign_negative, sign_not_right}
-use Rattle.face_chart.proofs.UnitTriples.{area_of}
+use Rattle.ntfe_model.proofs.PlaneNumbers.{sign_negative, sign_not_right}
+use Rattle.ntfe_model.proofs.UnitTriples.{area_of}
 use Rattle.face_chart.proofs.steps.is_clear.Goals as goal
 
 not_right : (x y : ℤ) → x ≡ y → pos 0 ≤ℤ x → sign y ≢ negsuc 0

@@ -5,8 +5,8 @@ use Rattle.std.proofs.lemmas.List.Elements.{All-contains, Contains-get_or}
 use Rattle.ntfe_model.specs.Charts.{spot_numbers}
 use Rattle.face_chart.specs.Units.{IsReached}
 use Rattle.face_chart.proofs.FlatLemmas.{most_zero_from_test, over_zero_from_test}
-use Rattle.face_chart.proofs.PlaneNumbers.{sign_positive}
-use Rattle.face_chart.proofs.UnitTriples.{area_of, unit_area}
+use Rattle.ntfe_model.proofs.PlaneNumbers.{sign_positive}
+use Rattle.ntfe_model.proofs.UnitTriples.{area_of, unit_area}
 use Rattle.face_chart.proofs.UnitLemmas.{kept_more, kept_all}
 use Rattle.face_chart.proofs.units.is_unit.Goals as goal
 

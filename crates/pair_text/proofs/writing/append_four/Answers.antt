@@ -11,9 +11,8 @@ pub returns : goal.returns
 returns c =
     let next = λ (old : List ℕ) (z : ℤ). old ++ spaced (signed_decimal z) in
     appended _ _ _ _ _ _ _ _ _ _
-    (c.in_ok-push_str.ensures.bytes
-    ∙ ap (λ (x : List ℕ). string_bytes c.args.text.now ++ x) (c.deref.ensures ∙ c.in_ok-first.ensures.ok ∙ ap signed_decimal (to_z-of_z w64 c.args.a c.ranges.a)))
-    (c.in_ok-append_spaced.ensures ∙ ap (next (string_bytes c.push_str.new.self)) (to_z-of_z w64 c.args.b c.ranges.b))
+    (c.in_ok-write.ensures.bytes ∙ ap (λ (z : ℤ). string_bytes c.args.text.now ++ signed_decimal z) (to_z-of_z w64 c.args.a c.ranges.a))
+    (c.in_ok-append_spaced.ensures ∙ ap (next (string_bytes c.write.new.self)) (to_z-of_z w64 c.args.b c.ranges.b))
     (c.in_ok-append_spaced-2.ensures ∙ ap (next (string_bytes c.append_spaced.new.text)) (to_z-of_z w64 c.args.c c.ranges.c))
     (c.in_ok-append_spaced-3.ensures ∙ ap (next (string_bytes c.append_spaced-2.new.text)) (to_z-of_z w64 c.args.d c.ranges.d))
     (c.in_ok-push.ensures.bytes ∙ ap (λ (x : List ℕ). string_bytes c.append_spaced-3.new.text ++ x) (c.in_ok-push.ensures.ascii (omega arith)))

@@ -4,7 +4,7 @@ use Rattle.std.proofs.lemmas.Bool.Decides.{nat_tests}
 use Rattle.ntfe_model.specs.Charts.{Patch}
 use Rattle.face_chart.specs.Units.{IsUnitArea}
 use Rattle.face_chart.proofs.FlatLemmas.{positive_from_test, not_positive_from_test}
-use Rattle.face_chart.proofs.UnitTriples.{area_of, unit_area}
+use Rattle.ntfe_model.proofs.UnitTriples.{area_of, unit_area}
 use Rattle.face_chart.proofs.UnitLemmas.{same_bits}
 use Rattle.face_chart.proofs.charts.Chart.unit.Goals as goal
 

@@ -13,8 +13,8 @@ use Rattle.ntfe_model.specs.Choices.{IsInnerEdge, AreOpposite, IsFoldOf}
 use Rattle.ntfe_model.specs.declared.triangle.Triangle.{Triangle}
 use Rattle.ntfe_model.specs.declared.triangulation.Triangulation.{Triangulation}
 use Rattle.ntfe_model.specs.declared.nogood.Fold.{Fold}
-use Rattle.face_chart.proofs.Areas.{IsPositive, positive_is}
-use Rattle.face_chart.proofs.Triples.{AreThree, area_next, positive_three, third_point, corner_side, corner_same}
+use Rattle.ntfe_model.proofs.Areas.{IsPositive, positive_is}
+use Rattle.ntfe_model.proofs.Triples.{AreThree, area_next, positive_three, third_point, corner_side, corner_same}
 use Rattle.ntfe_nums.proofs.Ring.{Expression, ring}
 use Rattle.ntfe_nums.proofs.Ring.Expression.{var, num, plus, minus, times, neg}
 

@@ -3,10 +3,10 @@ use Rattle.std.proofs.Common.{◌≡◌, ℕ, zero, suc, ◌⊎◌, inl, inr, re
 use Rattle.std.proofs.lemmas.Int.{ints}
 use Rattle.ntfe_nums.specs.Vectors.{Vector, vector_sum, multiple, area, sign}
 use Rattle.ntfe_model.specs.Charts.{Patch, axes, place, reached, IsOf, IsUnit}
-use Rattle.face_chart.specs.Steps.{AreApart}
+use Rattle.ntfe_model.specs.Charts.{AreApart}
 use Rattle.ntfe_nums.proofs.Ring.{ring}
 use Rattle.ntfe_nums.proofs.Ring.Expression.{var, num, plus, minus, times}
-use Rattle.face_chart.proofs.PlaneNumbers.{positive_sign, negative_product, cancel, equal_multiples, area_turn, area_first, area_second, area_third, area_multiple}
+use Rattle.ntfe_model.proofs.PlaneNumbers.{positive_sign, negative_product, cancel, equal_multiples, area_turn, area_first, area_second, area_third, area_multiple}
 
 abbrev pub area_of : Patch → ℕ → ℕ → ℕ → ℤ
 area_of h a b c = area (axes h) (place h a) (place h b) (place h c)

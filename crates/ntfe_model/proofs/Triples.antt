@@ -6,7 +6,7 @@ use Rattle.ntfe_nums.specs.Vectors.{Vector, coordinate, area, sign}
 use Rattle.ntfe_model.specs.Triangulations.{HasSide, IsRotationOf, IsSameTriple, IsSide, IsTripleOf}
 use Rattle.ntfe_model.specs.declared.triangle.Triangle.{Triangle}
 use Rattle.ntfe_model.proofs.Listings.{Contains-here, Contains-there, Contains-cases, Contains-none}
-use Rattle.face_chart.proofs.Areas.{cross, cross_back, area_is, area_total, sides, AreDistinct, paired_total, positive_total, IsPositive, reverse_side}
+use Rattle.ntfe_model.proofs.Areas.{cross, cross_back, area_is, area_total, sides, AreDistinct, paired_total, positive_total, IsPositive, reverse_side}
 use Rattle.ntfe_nums.proofs.Ring.{ring}
 use Rattle.ntfe_nums.proofs.Ring.Expression.{var, num, minus, times}
 

@@ -1,0 +1,2 @@
+//! Whether a certificate is right: folds of items that cancel.
+#![tactic(auto)]
