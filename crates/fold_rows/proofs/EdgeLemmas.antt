@@ -7,8 +7,8 @@ use Rattle.ntfe_model.specs.Charts.{Patch, axes, place, IsOf, IsUnit}
 use Rattle.ntfe_model.specs.Choices.{AreOpposite, IsFoldOf}
 use Rattle.ntfe_model.specs.declared.triangle.Triangle.{Triangle}
 use Rattle.ntfe_model.specs.declared.nogood.Fold.{Fold}
-use Rattle.face_chart.proofs.Triples.{positive_apart}
-use Rattle.face_chart.proofs.Folds.{unit_corner, opposite_balance, opposite_apart, vector_swap}
+use Rattle.ntfe_model.proofs.Triples.{positive_apart}
+use Rattle.ntfe_model.proofs.Folds.{unit_corner, opposite_balance, opposite_apart, vector_swap}
 use Rattle.fold_rows.specs.Rows.{IsBalance, AreBalanced, IsThird, AreUnits, unspelled, IsFoldBetween}
 
 -- ---- what the code computes

@@ -1,5 +1,3 @@
-pub mod Levels
-pub mod FoldPlanes
 pub mod FactorLemmas
 pub mod SideLemmas
 pub mod EdgeLemmas

@@ -11,12 +11,12 @@ use Rattle.ntfe_model.specs.declared.triangle.Triangle.{Triangle}
 use Rattle.ntfe_model.specs.declared.triangulation.Triangulation.{Triangulation}
 use Rattle.ntfe_model.specs.declared.nogood.Fold.{Fold}
 use Rattle.ntfe_model.proofs.Listings.{listing_nil, listing_append, listing_same, Contains-here}
-use Rattle.face_chart.specs.Steps.{AreApart}
+use Rattle.ntfe_model.specs.Charts.{AreApart}
 use Rattle.face_chart.proofs.StepLemmas.{taken_more, taken_kept, taken_last, taken_below}
-use Rattle.face_chart.proofs.Triples.{third_point}
-use Rattle.face_chart.proofs.Folds.{unit_corner, fold_edge, fold_unique}
+use Rattle.ntfe_model.proofs.Triples.{third_point}
+use Rattle.ntfe_model.proofs.Folds.{unit_corner, fold_edge, fold_unique}
 use Rattle.fold_rows.specs.Rows.{IsSmallFold, HasPoint, AreAround, AreUnits, unspelled, AddsFolds}
-use Rattle.fold_rows.proofs.FoldPlanes.{AreFoldsPositive, folds_give_above, above_gives_folds}
+use Rattle.ntfe_model.proofs.FoldPlanes.{AreFoldsPositive, folds_give_above, above_gives_folds}
 
 abbrev before : Fold → Fold → Type 0
 before q r = IsBefore2 q.a q.b r.a r.b
