@@ -1,0 +1,4 @@
+//! Fine triangulations of a two-face, by their definition alone: plain and slow, for other programs to be compared with.
+#![tactic(auto)]
+
+mod waiting;
