@@ -9,11 +9,11 @@ use Rattle.face_chart.proofs.PlaneNumbers.{cancel, negative_product}
 
 -- ---- the square of a difference
 
-square : (z : ℤ) → z *ℤ z ≡ pos (unsigned_abs z * unsigned_abs z)
+pub square : (z : ℤ) → z *ℤ z ≡ pos (unsigned_abs z * unsigned_abs z)
 square (pos n) = refl
 square (negsuc n) = refl
 
-no_square : (k : ℕ) (r : ℕ) → k * k + r ≡ 0 → k ≡ 0
+pub no_square : (k : ℕ) (r : ℕ) → k * k + r ≡ 0 → k ≡ 0
 no_square zero r e = refl
 no_square (suc k) r e = absurd (omega arith)
 
@@ -57,7 +57,7 @@ module _ (a b : Vector) where
 
 -- ---- one coordinate
 
-mix_number : (n s a b x : ℤ) → n *ℤ (x -ℤ a) ≡ s *ℤ (b -ℤ a) → n *ℤ x ≡ (n -ℤ s) *ℤ a +ℤ s *ℤ b
+pub mix_number : (n s a b x : ℤ) → n *ℤ (x -ℤ a) ≡ s *ℤ (b -ℤ a) → n *ℤ x ≡ (n -ℤ s) *ℤ a +ℤ s *ℤ b
 mix_number n s a b x e =
     ring (n ∷ x ∷ a ∷ []) (times (var 0) (var 1)) (plus (times (var 0) (minus (var 1) (var 2))) (times (var 0) (var 2))) refl
     ∙ ap (λ z. z +ℤ n *ℤ a) e

@@ -1,2 +1,4 @@
 pub mod Insertion
 pub mod Spelling
+pub mod InsideLemmas
+pub mod CrossLemmas
