@@ -44,7 +44,7 @@ meet_turn a b c d h = record {
   meet = h.meet ∙ share_turn h.n h.t c d (let l = h.second.1 in omega (arith, l));
 }
 
-pub meet_swap : (a b c d : Vector) → DoMeetInside a b c d → DoMeetInside c d a b
+abbrev pub meet_swap : (a b c d : Vector) → DoMeetInside a b c d → DoMeetInside c d a b
 meet_swap a b c d h = record {
   distinct = (h.distinct.1, h.distinct.0);
   n = h.n;

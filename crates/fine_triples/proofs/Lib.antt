@@ -2,3 +2,4 @@ pub mod Insertion
 pub mod Spelling
 pub mod InsideLemmas
 pub mod CrossLemmas
+pub mod ParallelLemmas
