@@ -21,11 +21,11 @@ nothing s a b h e = ⊎_elim (λ p. absurd (h p)) (λ q. no_difference a b q) (z
 pub same4 : (a b : Vector) → a.x1 ≡ b.x1 → a.x2 ≡ b.x2 → a.x3 ≡ b.x3 → a.x4 ≡ b.x4 → a ≡ b
 same4 a b p q r s = λ i. record { x1 = p i; x2 = q i; x3 = r i; x4 = s i }
 
-decide_number4 : (a b : ℤ) → Decided (a ≡ b)
-decide_number4 a b = ⊎_elim (λ e. inl (omega (arith, ints, e))) (λ n. inr (λ p. n (omega (arith, ints, p)))) (decide_number (unsigned_abs (a -ℤ b)) 0)
+pub decide_integer : (a b : ℤ) → Decided (a ≡ b)
+decide_integer a b = ⊎_elim (λ e. inl (omega (arith, ints, e))) (λ n. inr (λ p. n (omega (arith, ints, p)))) (decide_number (unsigned_abs (a -ℤ b)) 0)
 
 pub decide_vector : (a b : Vector) → Decided (a ≡ b)
-decide_vector a b = by (decide_number4 a.x1 b.x1) (decide_number4 a.x2 b.x2) (decide_number4 a.x3 b.x3) (decide_number4 a.x4 b.x4)
+decide_vector a b = by (decide_integer a.x1 b.x1) (decide_integer a.x2 b.x2) (decide_integer a.x3 b.x3) (decide_integer a.x4 b.x4)
   where
     by : Decided (a.x1 ≡ b.x1) → Decided (a.x2 ≡ b.x2) → Decided (a.x3 ≡ b.x3) → Decided (a.x4 ≡ b.x4) → Decided (a ≡ b)
     by (inl p) (inl q) (inl r) (inl s) = inl (same4 a b p q r s)

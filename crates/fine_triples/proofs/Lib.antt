@@ -3,3 +3,4 @@ pub mod Spelling
 pub mod InsideLemmas
 pub mod CrossLemmas
 pub mod ParallelLemmas
+pub mod ShareLemmas

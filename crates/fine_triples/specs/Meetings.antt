@@ -32,3 +32,10 @@ pub record DoMeetInside (a b c d : Vector) : Type 0 where
 -- 0 exactly where d and e are parallel
 abbrev pub gram : Vector → Vector → ℤ
 gram d e = dot d d *ℤ dot e e -ℤ dot d e *ℤ dot d e
+
+-- as the parts s and t of n: where the lines along d and e meet, when the first goes through a point and the second through that point and r
+abbrev pub first_share : Vector → Vector → Vector → ℤ
+first_share d e r = dot d r *ℤ dot e e -ℤ dot e r *ℤ dot d e
+
+abbrev pub second_share : Vector → Vector → Vector → ℤ
+second_share d e r = dot d r *ℤ dot d e -ℤ dot e r *ℤ dot d d
