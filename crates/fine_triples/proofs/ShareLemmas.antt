@@ -1,10 +1,9 @@
 -- Where two segments meet inside, by their scalar products.
-use Rattle.std.proofs.Common.{◌≡◌, ◌≢◌, ℕ, zero, suc, ◌-◌, ◌<◌, ◌≤◌, refl, sym, ap, ◌∙◌, subst, arith, ℤ, pos, ◌+ℤ◌, ◌-ℤ◌, ◌*ℤ◌, ◌<ℤ◌, ◌≤ℤ◌, [], ◌∷◌, get_or, unsigned_abs}
+use Rattle.std.proofs.Common.{◌≡◌, ◌≢◌, ℕ, zero, suc, ◌<◌, refl, sym, ap, ◌∙◌, subst, arith, ℤ, pos, ◌+ℤ◌, ◌-ℤ◌, ◌*ℤ◌, ◌<ℤ◌, [], ◌∷◌, get_or, unsigned_abs}
 use Rattle.std.proofs.lemmas.Int.{ints}
 use Rattle.ntfe_nums.specs.Vectors.{Vector, numbers, vector_sum, difference, multiple, dot}
 use Rattle.ntfe_nums.proofs.Ring.{ring, product_comm}
 use Rattle.ntfe_nums.proofs.Ring.Expression.{var, num, plus, minus, times}
-use Rattle.ntfe_model.specs.Triangulations.{mixed}
 use Rattle.face_chart.proofs.PlaneNumbers.{cancel, positive_product, positive_factor}
 use Rattle.fine_triples.specs.Meetings.{DoMeetInside, gram, first_share, second_share}
 use Rattle.fine_triples.proofs.InsideLemmas.{same4}

@@ -2,8 +2,10 @@
 #![tactic(auto)]
 
 mod meeting;
+mod segments;
 mod triples;
 mod waiting;
 mod word;
 
+pub use segments::crosses;
 pub use word::word_of;
