@@ -4,3 +4,4 @@ pub mod InsideLemmas
 pub mod CrossLemmas
 pub mod ParallelLemmas
 pub mod ShareLemmas
+pub mod Passed

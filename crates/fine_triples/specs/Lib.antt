@@ -1,2 +1,3 @@
 pub mod Meetings
 pub mod ShareNumbers
+pub mod FineParts

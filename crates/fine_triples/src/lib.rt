@@ -1,7 +1,9 @@
 //! Fine triangulations of a two-face, by their definition alone: plain and slow, for other programs to be compared with.
 #![tactic(auto)]
 
+mod crossings;
 mod meeting;
+mod parts;
 mod segments;
 mod triples;
 mod waiting;
