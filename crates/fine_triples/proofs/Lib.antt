@@ -5,3 +5,4 @@ pub mod CrossLemmas
 pub mod ParallelLemmas
 pub mod ShareLemmas
 pub mod Passed
+pub mod FineConditions

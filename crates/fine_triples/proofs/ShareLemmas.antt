@@ -111,7 +111,6 @@ share_of n s x y = vector_sum (multiple (n -ℤ s) x) (multiple s y)
 
 module _ (a b c f : Vector) (N S T : ℤ) (eN : N ≡ gram (difference b a) (difference f c)) (eS : S ≡ first_share (difference b a) (difference f c) (difference c a))
     (eT : T ≡ second_share (difference b a) (difference f c) (difference c a)) where
-
   pub meets_from : pos 0 <ℤ S → S <ℤ N → pos 0 <ℤ T → T <ℤ N
       → ((k : ℕ) → k < 4 → S *ℤ get_or (numbers (difference b a)) k (pos 0) -ℤ T *ℤ get_or (numbers (difference f c)) k (pos 0) ≡ N *ℤ get_or (numbers (difference c a)) k (pos 0)) → DoMeetInside a b c f
   meets_from s1 s2 t1 t2 g = record {

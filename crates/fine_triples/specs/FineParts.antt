@@ -1,6 +1,6 @@
 -- What a fine set asks of its triples, one after the other.
-use Rattle.std.specs.Prelude.{◌≡◌, ℕ, ◌⊎◌, List, All, Contains}
-use Rattle.ntfe_model.specs.Charts.{Patch, place, IsOf, IsUnit}
+use Rattle.std.specs.Prelude.{ℕ, ◌⊎◌, List, All, Contains}
+use Rattle.ntfe_model.specs.Charts.{Patch, place, IsUnit}
 use Rattle.ntfe_model.specs.Triangulations.{HasSide, IsSameTriple, IsSide, HaveSameEnds, DoCross}
 use Rattle.ntfe_model.specs.declared.triangle.Triangle.{Triangle}
 

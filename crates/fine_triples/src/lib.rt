@@ -2,6 +2,7 @@
 #![tactic(auto)]
 
 mod crossings;
+mod fine;
 mod meeting;
 mod parts;
 mod segments;
@@ -9,5 +10,6 @@ mod triples;
 mod waiting;
 mod word;
 
+pub use fine::is_fine;
 pub use segments::crosses;
 pub use word::word_of;

@@ -50,7 +50,9 @@ fn is_once_beside(one: &Triangle, other: &Triangle) -> bool
     if is_same(one, other) {
         return true;
     }
-    !has_side(other, one.a, one.b) && !has_side(other, one.b, one.c) && !has_side(other, one.c, one.a)
+    !has_side(other, one.a, one.b)
+        && !has_side(other, one.b, one.c)
+        && !has_side(other, one.c, one.a)
 }
 
 /// Whether no directed side of the triple stands in another of the triples.
