@@ -7,7 +7,7 @@ use Rattle.ntfe_model.specs.Triangulations.{HasSide, IsSameTriple, IsSide, IsFin
 use Rattle.ntfe_model.specs.declared.triangle.Triangle.{Triangle}
 use Rattle.ntfe_model.proofs.Listings.{All-from_contains}
 use Rattle.face_chart.proofs.Triples.{Decided, decide_is_side}
-use Rattle.fine_triples.specs.FineParts.{OnSides, IsUnitTriple, IsOnceBeside, IsOnceAmong, IsEdge, IsClosed, KeepApart, KeepsApart}
+use Rattle.fine_triples.specs.FineConditions.{OnSides, IsUnitTriple, IsOnceBeside, IsOnceAmong, IsEdge, IsClosed, KeepApart, KeepsApart}
 
 -- ---- each side of a triple, and of triples
 

@@ -1,47 +1,16 @@
 -- Parallel segments that meet inside: an end of one lies inside the other, or they are one.
-use Rattle.std.proofs.Common.{◌≡◌, ◌≢◌, ℕ, zero, suc, ◌+◌, ◌-◌, ◌*◌, ◌<◌, ◌≤◌, ◌⊎◌, inl, inr, ⊎_elim, refl, sym, ap, ◌∙◌, subst, arith, ℤ, pos, negsuc, ◌+ℤ◌, ◌-ℤ◌, ◌*ℤ◌, neg_ℤ, ◌<ℤ◌, [], ◌∷◌, unsigned_abs, mul-le-mul}
+use Rattle.std.proofs.Common.{◌≡◌, ◌≢◌, ℕ, zero, suc, ◌-◌, ◌*◌, ◌<◌, ◌≤◌, ◌⊎◌, inl, inr, ⊎_elim, refl, sym, ap, ◌∙◌, subst, arith, ℤ, pos, negsuc, ◌+ℤ◌, ◌-ℤ◌, ◌*ℤ◌, neg_ℤ, ◌<ℤ◌, [], ◌∷◌, mul-le-mul}
 use Rattle.std.proofs.lemmas.Int.{ints}
 use Rattle.ntfe_nums.specs.Vectors.{Vector, origin, difference, multiple, dot}
 use Rattle.ntfe_nums.proofs.Ring.{ring}
 use Rattle.ntfe_nums.proofs.Ring.Expression.{var, num, plus, minus, times, neg}
 use Rattle.face_chart.proofs.PlaneNumbers.{negative_product}
-use Rattle.face_chart.proofs.SegmentLemmas.{square, no_square}
+use Rattle.face_chart.proofs.SegmentLemmas.{total, square_is, total_none, apart_total}
 use Rattle.fine_triples.specs.Meetings.{IsInside, HasInsideEnd, AreOneSegment, DoMeetInside, gram}
 use Rattle.fine_triples.proofs.InsideLemmas.{no_difference, nothing, same4, inside_from, inside_turn}
 use Rattle.fine_triples.proofs.CrossLemmas.{meet_turn, meet_swap}
 
 -- ---- the square of a vector
-
-total : Vector → ℕ
-total v = unsigned_abs v.x1 * unsigned_abs v.x1 + unsigned_abs v.x2 * unsigned_abs v.x2 + unsigned_abs v.x3 * unsigned_abs v.x3 + unsigned_abs v.x4 * unsigned_abs v.x4
-
-square_is : (v : Vector) → dot v v ≡ pos (total v)
-unfolding total
-square_is v = λ i. square v.x1 i +ℤ square v.x2 i +ℤ square v.x3 i +ℤ square v.x4 i
-
-total_none : (v : Vector) → total v ≡ 0 → v ≡ origin
-unfolding total
-total_none v e =
-    let k = unsigned_abs v.x1 in
-    let l = unsigned_abs v.x2 in
-    let m = unsigned_abs v.x3 in
-    let n = unsigned_abs v.x4 in
-    same4 v origin (none v.x1 (first k l m n e)) (none v.x2 (second k l m n e)) (none v.x3 (third k l m n e)) (none v.x4 (fourth k l m n e))
-  where
-    none : (z : ℤ) → unsigned_abs z ≡ 0 → z ≡ pos 0
-    none z p = omega (arith, ints, p)
-
-    first : (k l m n : ℕ) → k * k + l * l + m * m + n * n ≡ 0 → k ≡ 0
-    first k l m n q = no_square k (l * l + m * m + n * n) (omega (arith, q))
-
-    second : (k l m n : ℕ) → k * k + l * l + m * m + n * n ≡ 0 → l ≡ 0
-    second k l m n q = no_square l (k * k + m * m + n * n) (omega (arith, q))
-
-    third : (k l m n : ℕ) → k * k + l * l + m * m + n * n ≡ 0 → m ≡ 0
-    third k l m n q = no_square m (k * k + l * l + n * n) (omega (arith, q))
-
-    fourth : (k l m n : ℕ) → k * k + l * l + m * m + n * n ≡ 0 → n ≡ 0
-    fourth k l m n q = no_square n (k * k + l * l + m * m) (omega (arith, q))
 
 square_none : (v : Vector) → dot v v ≡ pos 0 → v ≡ origin
 square_none v e = total_none v (whole (total v) (sym (square_is v) ∙ e))
@@ -56,14 +25,11 @@ square_least v l = below (dot v v) (total v) l (square_is v)
     below z n p q = absurd (omega (arith, ints, p, q))
 
 -- a segment with two ends has a difference whose square is positive
-apart_total : (a b : Vector) → a ≢ b → 0 < total (difference b a)
-apart_total a b d = above (total (difference b a)) (λ e. d (equal (total_none (difference b a) e)))
+apart_positive : (a b : Vector) → a ≢ b → 0 < total (difference b a)
+apart_positive a b d = above (total (difference b a)) (apart_total a b d)
   where
     above : (k : ℕ) → k ≢ 0 → 0 < k
     above k n = grind (arith, n)
-
-    equal : difference b a ≡ origin → a ≡ b
-    equal e = same4 a b (no_difference a.x1 b.x1 (ap (λ v. v.x1) e)) (no_difference a.x2 b.x2 (ap (λ v. v.x2) e)) (no_difference a.x3 b.x3 (ap (λ v. v.x3) e)) (no_difference a.x4 b.x4 (ap (λ v. v.x4) e))
 
 -- the multiple of e by the square of d, less that of d by their product
 across : Vector → Vector → Vector
@@ -94,7 +60,7 @@ along d e g =
 -- and else it is positive
 pub gram_positive : (a b e : Vector) → a ≢ b → gram (difference b a) e ≢ pos 0 → pos 0 <ℤ gram (difference b a) e
 gram_positive a b e n g = by (gram d e) (dot d d) g (λ l. square_least (across d e) (let P : ℤ → Type 0 = λ z. z <ℤ pos 0 in subst P (sym (gram_square d e)) l))
-    (let P : ℤ → Type 0 = λ z. pos 0 <ℤ z in subst P (sym (square_is d)) (whole (total d) (apart_total a b n)))
+    (let P : ℤ → Type 0 = λ z. pos 0 <ℤ z in subst P (sym (square_is d)) (whole (total d) (apart_positive a b n)))
   where
     d : Vector
     d = difference b a
@@ -249,7 +215,7 @@ parallel_ends a b c f g m = by (dot (difference b a) (difference f c)) (subst P 
     P z = multiple z (difference f c) ≡ multiple (dot (difference b a) (difference f c)) (difference b a)
 
     positive : 0 < D
-    positive = apart_total a b m.distinct.0
+    positive = apart_positive a b m.distinct.0
 
     some : pos D ≢ pos 0
     some e = let p = positive in absurd (omega (arith, ints, e, p))

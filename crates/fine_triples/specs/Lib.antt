@@ -1,3 +1,3 @@
 pub mod Meetings
 pub mod ShareNumbers
-pub mod FineParts
+pub mod FineConditions

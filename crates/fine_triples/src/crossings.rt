@@ -2,7 +2,7 @@
 ghost use Rattle.std.specs.Prelude.{◌≡◌, ◌↔◌, IsTrue, All};
 ghost use Rattle.ntfe_model.specs.Charts.{IsOf};
 ghost use Rattle.ntfe_model.specs.Triangulations.{HaveSameEnds};
-ghost use Rattle.fine_triples.specs.FineParts.{OnSides, IsUnitTriple, KeepApart, KeepsApart};
+ghost use Rattle.fine_triples.specs.FineConditions.{OnSides, IsUnitTriple, KeepApart, KeepsApart};
 
 use crate::segments::crosses;
 use face_chart::Chart;

@@ -2,8 +2,8 @@
 ghost use Rattle.std.specs.Prelude.{◌≡◌, ◌↔◌, IsTrue};
 ghost use Rattle.ntfe_model.specs.Triangulations.{IsFine};
 
+use crate::conditions::{are_closed, are_edges, are_once, are_unit};
 use crate::crossings::all_keep_apart;
-use crate::parts::{are_closed, are_edges, are_once, are_unit};
 use face_chart::Chart;
 use ntfe_model::Triangle;
 

@@ -1,4 +1,4 @@
-use Rattle.fine_triples.specs.FineParts.{OnSides, KeepsApart}
+use Rattle.fine_triples.specs.FineConditions.{OnSides, KeepsApart}
 use Rattle.fine_triples.proofs.Passed.{passed_more, passed_not, passed_all}
 use Rattle.fine_triples.proofs.crossings.all_keep_apart.Goals as goal
 

@@ -1,4 +1,4 @@
-use Rattle.fine_triples.specs.FineParts.{OnSides, KeepApart}
+use Rattle.fine_triples.specs.FineConditions.{OnSides, KeepApart}
 use Rattle.fine_triples.proofs.Passed.{passed_more}
 use Rattle.fine_triples.proofs.crossings.keeps_apart.Goals as goal
 

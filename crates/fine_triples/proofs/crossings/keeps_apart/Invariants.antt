@@ -1,6 +1,6 @@
 use Rattle.std.proofs.Common.{ℕ, ◌<◌, get_or}
 use Rattle.ntfe_model.specs.declared.triangle.Triangle.{Triangle}
-use Rattle.fine_triples.specs.FineParts.{OnSides, KeepApart}
+use Rattle.fine_triples.specs.FineConditions.{OnSides, KeepApart}
 use Rattle.fine_triples.proofs.crossings.keeps_apart.Given as goal
 
 abbrev pub invariant-loop-triple : goal.invariant-loop-triple

@@ -2,7 +2,7 @@
 ghost use Rattle.std.specs.Prelude.{◌≡◌, ◌⊎◌, ◌↔◌, IsTrue, All, Contains};
 ghost use Rattle.ntfe_model.specs.Charts.{IsOf};
 ghost use Rattle.ntfe_model.specs.Triangulations.{IsSide};
-ghost use Rattle.fine_triples.specs.FineParts.{OnSides, IsUnitTriple, IsOnceBeside, IsOnceAmong, IsEdge, IsClosed};
+ghost use Rattle.fine_triples.specs.FineConditions.{OnSides, IsUnitTriple, IsOnceBeside, IsOnceAmong, IsEdge, IsClosed};
 
 use crate::triples::{has_side, is_same, is_side};
 use face_chart::Chart;

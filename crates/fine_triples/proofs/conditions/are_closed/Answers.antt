@@ -1,6 +1,6 @@
-use Rattle.fine_triples.specs.FineParts.{OnSides, IsClosed}
+use Rattle.fine_triples.specs.FineConditions.{OnSides, IsClosed}
 use Rattle.fine_triples.proofs.Passed.{passed_more, passed_not}
-use Rattle.fine_triples.proofs.parts.are_closed.Goals as goal
+use Rattle.fine_triples.proofs.conditions.are_closed.Goals as goal
 
 pub loop-one-preserved : goal.loop-one-preserved
 loop-one-preserved c = passed_more (OnSides (IsClosed c.args.triples.now c.args.boundary.now)) c.args.triples.now c.loop-one.one-index _ c.loop-one-test.true c.loop-one.invariant (c.is_closed_triple.ensures.0 c.if-not-is_closed_triple.false)

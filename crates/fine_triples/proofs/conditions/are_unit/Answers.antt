@@ -1,6 +1,6 @@
-use Rattle.fine_triples.specs.FineParts.{IsUnitTriple}
+use Rattle.fine_triples.specs.FineConditions.{IsUnitTriple}
 use Rattle.fine_triples.proofs.Passed.{passed_more, passed_not}
-use Rattle.fine_triples.proofs.parts.are_unit.Goals as goal
+use Rattle.fine_triples.proofs.conditions.are_unit.Goals as goal
 
 pub loop-triple-preserved : goal.loop-triple-preserved
 loop-triple-preserved c = passed_more (IsUnitTriple c.args.chart.now) c.args.triples.now c.loop-triple.triple-index _ c.loop-triple-test.true c.loop-triple.invariant (c.is_unit.ensures.0 c.if-not-is_unit.false)

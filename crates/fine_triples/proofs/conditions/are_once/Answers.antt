@@ -1,6 +1,6 @@
-use Rattle.fine_triples.specs.FineParts.{IsOnceAmong}
+use Rattle.fine_triples.specs.FineConditions.{IsOnceAmong}
 use Rattle.fine_triples.proofs.Passed.{passed_more, passed_not}
-use Rattle.fine_triples.proofs.parts.are_once.Goals as goal
+use Rattle.fine_triples.proofs.conditions.are_once.Goals as goal
 
 pub loop-one-preserved : goal.loop-one-preserved
 loop-one-preserved c = passed_more (IsOnceAmong c.args.triples.now) c.args.triples.now c.loop-one.one-index _ c.loop-one-test.true c.loop-one.invariant (c.is_once_among.ensures.0 c.if-not-is_once_among.false)

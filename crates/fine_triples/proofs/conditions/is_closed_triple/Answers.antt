@@ -1,4 +1,4 @@
-use Rattle.fine_triples.proofs.parts.is_closed_triple.Goals as goal
+use Rattle.fine_triples.proofs.conditions.is_closed_triple.Goals as goal
 
 pub returns : goal.returns
 returns c = (
