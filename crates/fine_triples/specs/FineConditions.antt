@@ -1,4 +1,4 @@
--- What a fine set asks of its triples, one after the other.
+-- What a fine set asks, one condition after the other.
 use Rattle.std.specs.Prelude.{ℕ, ◌⊎◌, List, All, Contains}
 use Rattle.ntfe_model.specs.Charts.{Patch, place, IsUnit}
 use Rattle.ntfe_model.specs.Triangulations.{HasSide, IsSameTriple, IsSide, HaveSameEnds, DoCross}
@@ -10,6 +10,7 @@ pub record OnSides (P : ℕ → ℕ → Type 0) (t : Triangle) : Type 0 where
   pub second : P t.b t.c
   pub third : P t.c t.a
 
+-- the triple is a unit triple of the face
 pub record IsUnitTriple (h : Patch) (t : Triangle) : Type 0 where
   pub unit : IsUnit h t.a t.b t.c
 

@@ -33,7 +33,7 @@ pub record DoMeetInside (a b c d : Vector) : Type 0 where
 abbrev pub gram : Vector → Vector → ℤ
 gram d e = dot d d *ℤ dot e e -ℤ dot d e *ℤ dot d e
 
--- as the parts s and t of n: where the lines along d and e meet, when the first goes through a point and the second through that point and r
+-- the numbers s and t with s d - t e = n r, where n is the gram of d and e, for each r in their plane
 abbrev pub first_share : Vector → Vector → Vector → ℤ
 first_share d e r = dot d r *ℤ dot e e -ℤ dot e r *ℤ dot d e
 

@@ -2,6 +2,7 @@
 use Rattle.std.specs.Prelude.{◌≡◌, ℕ, ◌^◌, ◌≤◌, ℤ, pos, ◌-ℤ◌, ◌*ℤ◌, ◌<ℤ◌, unsigned_abs, List, slice_index_or}
 use Rattle.fine_triples.specs.declared.meeting.Shares.{Shares}
 
+-- each is so small that its products with coordinates fit 64 bits
 pub record AreSmallShares (m : Shares) : Type 0 where
   pub whole : unsigned_abs m.n ≤ 2 ^ 49
   pub first : unsigned_abs m.s ≤ 2 ^ 49
