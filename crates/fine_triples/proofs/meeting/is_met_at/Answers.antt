@@ -1,21 +1,12 @@
-use Rattle.std.proofs.Common.{ℕ, ℤ, ◌≡◌, ◌==◌, ◌∙◌, Bool, true, false, arith, sym, ap, refl, w64, to_z, of_z, List, [], ◌∷◌, get_or, pos, to_z-of_z}
-use Rattle.std.proofs.lemmas.Bool.Decides.{nat_tests}
+use Rattle.std.proofs.Common.{ℕ, ℤ, ◌≡◌, ◌∙◌, true, false, sym, ap, refl, w64, to_z, of_z, List, [], ◌∷◌, get_or, pos, to_z-of_z}
 use Rattle.ntfe_nums.specs.Sizes.{AreWithin}
 use Rattle.ntfe_nums.proofs.Ring.{Expression}
 use Rattle.ntfe_nums.proofs.Ring.Expression.{var, minus, times}
 use Rattle.ntfe_nums.proofs.Machine.{AreBounded, AreWithin-four, exact, fits}
+use Rattle.face_chart.proofs.Walk.{same_number, number_same}
 use Rattle.fine_triples.specs.declared.meeting.Shares.{Shares}
 use Rattle.fine_triples.specs.ShareNumbers.{AreSmallShares}
 use Rattle.fine_triples.proofs.meeting.is_met_at.Goals as goal
-
-yes_same : (m n : ℕ) → (m == n) ≡ true → m ≡ n
-yes_same m n e = grind (arith, nat_tests)
-
-same_yes : (m n : ℕ) → m ≡ n → (m == n) ≡ true
-same_yes m n e = grind (arith, nat_tests)
-
-not_both : {X : Type 0} (b : Bool) → b ≡ true → b ≡ false → X
-not_both b e f = let g : true ≡ false = sym e ∙ f in cc
 
 abbrev vars : Shares → List ℤ → List ℤ → List ℤ → ℕ → List ℤ
 vars m d e r i = m.s ∷ get_or d i (pos 0) ∷ m.t ∷ get_or e i (pos 0) ∷ m.n ∷ get_or r i (pos 0) ∷ []
@@ -61,6 +52,6 @@ returns c =
     let f = fits w64 vs bounds h leftE refl in
     let g = fits w64 vs bounds h rightE refl in
     record {
-      when_true = λ t. sym p ∙ ap (to_z w64) (yes_same _ _ t) ∙ q;
-      when_false = λ t e. not_both _ (same_yes _ _ (ap (of_z w64) (sym (to_z-of_z f) ∙ p ∙ e ∙ sym q ∙ to_z-of_z g))) t;
+      when_true = λ t. sym p ∙ ap (to_z w64) (same_number _ _ t) ∙ q;
+      when_false = λ t e. let b : true ≡ false = sym (number_same _ _ (ap (of_z w64) (sym (to_z-of_z f) ∙ p ∙ e ∙ sym q ∙ to_z-of_z g))) ∙ t in cc;
     }
