@@ -1,0 +1,122 @@
+-- Rows with one thing more or less: their order, and what they have.
+use Rattle.std.proofs.Common.{◌≡◌, ◌≢◌, ◌∙◌, refl, sym, ap, subst, ◌⊎◌, inl, inr, ⊎_elim, ◌↔◌, ℕ, suc, ◌+◌, ◌<◌, List, [], ◌∷◌, ◌++◌, length, take, drop, get_or, arith, length-drop, drop-cons}
+use Rattle.std.specs.Prelude.{AllPairs, Contains}
+use Rattle.std.specs.List.{insert, remove}
+use Rattle.std.proofs.lemmas.List.{take-append-drop, get_or-take, get_or-drop, length-take}
+use Rattle.std.proofs.lemmas.List.Elements.{All-contains, Contains-append_left, Contains-append_right, Contains-append_cases}
+use Rattle.std.proofs.lemmas.List.Kept.{AllPairs-cons}
+use Rattle.ntfe_model.specs.Lists.{IsBelow}
+use Rattle.ntfe_model.proofs.Listings.{Contains-here, Contains-there, Contains-cases, Contains-none, AllPairs-head, AllPairs-tail, AllPairs-append, All-from_contains}
+use Rattle.choice_board.specs.Rows.{IsFalling, IsPlaceFor}
+use Rattle.choice_board.proofs.KeyOrder.{not_below_itself}
+
+-- ---- the two parts of a row
+
+pub pairs_first : {X : Type 0} (R : X → X → Type 0) (xs ys : List X) → AllPairs R (xs ++ ys) → AllPairs R xs
+pairs_first R [] ys h = λ i j d k l. absurd (omega arith)
+pairs_first R (x ∷ xs) ys h =
+    AllPairs-cons R x xs (All-from_contains (R x) xs (λ z p. All-contains (R x) (xs ++ ys) z (AllPairs-head R x (xs ++ ys) h) (Contains-append_left xs ys z p)))
+    (pairs_first R xs ys (AllPairs-tail R x (xs ++ ys) h))
+
+pub pairs_second : {X : Type 0} (R : X → X → Type 0) (xs ys : List X) → AllPairs R (xs ++ ys) → AllPairs R ys
+pairs_second R [] ys h = h
+pairs_second R (x ∷ xs) ys h = pairs_second R xs ys (AllPairs-tail R x (xs ++ ys) h)
+
+pub pairs_across : {X : Type 0} (R : X → X → Type 0) (xs ys : List X) → AllPairs R (xs ++ ys) → (x y : X) → Contains xs x → Contains ys y → R x y
+pairs_across R [] ys h x y p q = Contains-none x p
+pairs_across {X} R (z ∷ xs) ys h x y p q = by (Contains-cases x z xs p) (λ r. pairs_across R xs ys (AllPairs-tail R z (xs ++ ys) h) x y r q)
+  where
+    by : (x ≡ z) ⊎ Contains xs x → (Contains xs x → R x y) → R x y
+    by (inl e) rest = let P : X → Type 0 = λ w. R w y in subst P (sym e) (All-contains (R z) (xs ++ ys) y (AllPairs-head R z (xs ++ ys) h) (Contains-append_right xs ys y q))
+    by (inr r) rest = rest r
+
+-- ---- a thing more between two parts
+
+pub pairs_with : {X : Type 0} (R : X → X → Type 0) (xs : List X) (y : X) (zs : List X) → AllPairs R (xs ++ zs)
+    → ((x : X) → Contains xs x → R x y) → ((z : X) → Contains zs z → R y z) → AllPairs R (xs ++ y ∷ zs)
+pairs_with {X} R xs y zs h f g =
+    AllPairs-append R xs (y ∷ zs) (pairs_first R xs zs h) (AllPairs-cons R y zs (All-from_contains (R y) zs g) (pairs_second R xs zs h))
+    (λ x z p q. ⊎_elim (λ e. (let P : X → Type 0 = λ w. R x w in subst P (sym e) (f x p))) (λ r. pairs_across R xs zs h x z p r) (Contains-cases z y zs q))
+
+pub pairs_without : {X : Type 0} (R : X → X → Type 0) (xs : List X) (y : X) (zs : List X) → AllPairs R (xs ++ y ∷ zs) → AllPairs R (xs ++ zs)
+pairs_without R xs y zs h =
+    AllPairs-append R xs zs (pairs_first R xs (y ∷ zs) h) (AllPairs-tail R y zs (pairs_second R xs (y ∷ zs) h))
+    (λ x z p q. pairs_across R xs (y ∷ zs) h x z p (Contains-there z y zs q))
+
+pub has_with : {X : Type 0} (xs : List X) (y : X) (zs : List X) (x : X) → (Contains (xs ++ y ∷ zs) x) ↔ ((x ≡ y) ⊎ Contains (xs ++ zs) x)
+has_with {X} xs y zs x = (there, back)
+  where
+    there : Contains (xs ++ y ∷ zs) x → (x ≡ y) ⊎ Contains (xs ++ zs) x
+    there p =
+        ⊎_elim (λ q. inr (Contains-append_left xs zs x q)) (λ q. ⊎_elim (λ e. inl e) (λ r. inr (Contains-append_right xs zs x r)) (Contains-cases x y zs q))
+        (Contains-append_cases xs (y ∷ zs) x p)
+
+    back : (x ≡ y) ⊎ Contains (xs ++ zs) x → Contains (xs ++ y ∷ zs) x
+    back (inl e) = Contains-append_right xs (y ∷ zs) x (Contains-here x y zs e)
+    back (inr p) =
+        ⊎_elim (λ q. Contains-append_left xs (y ∷ zs) x q) (λ q. Contains-append_right xs (y ∷ zs) x (Contains-there x y zs q)) (Contains-append_cases xs zs x p)
+
+-- what a row in strict order has without one of its things
+pub has_without : {X : Type 0} (R : X → X → Type 0) → ((x : X) → R x x → ⊥) → (xs : List X) (y : X) (zs : List X) (x : X) → AllPairs R (xs ++ y ∷ zs)
+    → (Contains (xs ++ zs) x) ↔ (Contains (xs ++ y ∷ zs) x × (x ≢ y))
+has_without {X} R strict xs y zs x h = (there, back)
+  where
+    before : Contains xs x → x ≢ y
+    before q e = let P : X → Type 0 = λ w. R w y in strict y (subst P e (pairs_across R xs (y ∷ zs) h x y q (Contains-here y y zs refl)))
+
+    behind : Contains zs x → x ≢ y
+    behind q e = let P : X → Type 0 = λ w. R y w in strict y (subst P e (All-contains (R y) zs x (AllPairs-head R y zs (pairs_second R xs (y ∷ zs) h)) q))
+
+    there : Contains (xs ++ zs) x → Contains (xs ++ y ∷ zs) x × (x ≢ y)
+    there p = ((has_with xs y zs x).1 (inr p), ⊎_elim before behind (Contains-append_cases xs zs x p))
+
+    back : Contains (xs ++ y ∷ zs) x × (x ≢ y) → Contains (xs ++ zs) x
+    back p = ⊎_elim (λ e. absurd (p.1 e)) (λ q. q) ((has_with xs y zs x).0 p.0)
+
+-- ---- the same of an insert and a remove
+
+falls : {X : Type 0} (key : X → List ℕ) (x : X) → IsBelow (key x) (key x) → ⊥
+falls key x h = not_below_itself (key x) h
+
+pub falling_insert : {X : Type 0} (key : X → List ℕ) (row : List X) (i : ℕ) (y : X) → IsFalling key row → IsPlaceFor key row (key y) i → IsFalling key (insert row i y)
+falling_insert {X} key row i y h p =
+    let R : X → X → Type 0 = λ x z. IsBelow (key z) (key x) in
+    let cut : row ≡ take i row ++ drop i row = sym (take-append-drop i row) in
+    pairs_with R (take i row) y (drop i row) (subst (AllPairs R) cut h) higher lower
+  where
+    higher : (x : X) → Contains (take i row) x → IsBelow (key y) (key x)
+    higher x q =
+        let k = q.0 in
+        let short : k < i = (let l = q.1 in omega (arith, length-take i row)) in
+        let at : get_or row k x ≡ x = sym (get_or-take i row k x short) ∙ q.2 in
+        let P : X → Type 0 = λ w. IsBelow (key y) (key w) in
+        subst P at (p.higher k x short)
+
+    lower : (x : X) → Contains (drop i row) x → IsBelow (key x) (key y)
+    lower x q =
+        let k = q.0 in
+        let inside : i + k < length row = (let l = q.1 in omega (arith, length-drop i row)) in
+        let at : get_or row (i + k) x ≡ x = sym (get_or-drop i row k x) ∙ q.2 in
+        let P : X → Type 0 = λ w. IsBelow (key w) (key y) in
+        subst P at (p.lower (i + k) x (omega arith) inside)
+
+pub has_insert : {X : Type 0} (row : List X) (i : ℕ) (y x : X) → (Contains (insert row i y) x) ↔ ((x ≡ y) ⊎ Contains row x)
+has_insert {X} row i y x =
+    let P : List X → Type 0 = λ r. (Contains (insert row i y) x) ↔ ((x ≡ y) ⊎ Contains r x) in
+    subst P (take-append-drop i row) (has_with (take i row) y (drop i row) x)
+
+row_cut : {X : Type 0} (row : List X) (i : ℕ) (d : X) → i < length row → take i row ++ get_or row i d ∷ drop (suc i) row ≡ row
+row_cut row i d l = sym (ap (λ r. take i row ++ r) (drop-cons row i d l)) ∙ take-append-drop i row
+
+pub falling_remove : {X : Type 0} (key : X → List ℕ) (row : List X) (i : ℕ) (d : X) → i < length row → IsFalling key row → IsFalling key (remove row i)
+falling_remove {X} key row i d l h =
+    let R : X → X → Type 0 = λ x z. IsBelow (key z) (key x) in
+    pairs_without R (take i row) (get_or row i d) (drop (suc i) row) (subst (AllPairs R) (sym (row_cut row i d l)) h)
+
+pub has_remove : {X : Type 0} (key : X → List ℕ) (row : List X) (i : ℕ) (d x : X) → i < length row → IsFalling key row
+    → (Contains (remove row i) x) ↔ (Contains row x × (x ≢ get_or row i d))
+has_remove {X} key row i d x l h =
+    let R : X → X → Type 0 = λ v w. IsBelow (key w) (key v) in
+    let P : List X → Type 0 = λ r. (Contains (remove row i) x) ↔ (Contains r x × (x ≢ get_or row i d)) in
+    subst P (row_cut row i d l)
+    (has_without R (falls key) (take i row) (get_or row i d) (drop (suc i) row) x (subst (AllPairs R) (sym (row_cut row i d l)) h))

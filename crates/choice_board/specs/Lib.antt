@@ -1,0 +1,6 @@
+pub mod Rows
+pub mod Places
+pub mod Verdicts
+pub mod States
+pub mod Settling
+pub mod Telling

@@ -1,0 +1,13 @@
+//! The board of open keys: which choices are still to be looked at, and what was found.
+#![tactic(auto)]
+
+
+mod outcome;
+mod record;
+mod totals;
+mod verdict;
+
+
+pub use outcome::Outcome;
+pub use totals::Totals;
+pub use verdict::{Settled, Verdict};
