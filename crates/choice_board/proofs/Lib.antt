@@ -1,3 +1,4 @@
 pub mod KeyOrder
 pub mod PlaceLemmas
 pub mod RowLemmas
+pub mod ItemNumbers
