@@ -2,3 +2,4 @@ pub mod KeyOrder
 pub mod PlaceLemmas
 pub mod RowLemmas
 pub mod ItemNumbers
+pub mod Holders
