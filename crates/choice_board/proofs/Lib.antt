@@ -3,3 +3,4 @@ pub mod PlaceLemmas
 pub mod RowLemmas
 pub mod ItemNumbers
 pub mod Holders
+pub mod SettleLemmas
