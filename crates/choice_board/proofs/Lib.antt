@@ -4,3 +4,4 @@ pub mod RowLemmas
 pub mod ItemNumbers
 pub mod Holders
 pub mod SettleLemmas
+pub mod StartLemmas

@@ -1,5 +1,5 @@
 -- Rows with one thing more or less: their order, and what they have.
-use Rattle.std.proofs.Common.{◌≡◌, ◌≢◌, ◌∙◌, refl, sym, ap, subst, ◌⊎◌, inl, inr, ⊎_elim, ◌↔◌, ℕ, suc, ◌+◌, ◌<◌, List, [], ◌∷◌, ◌++◌, length, take, drop, get_or, arith, length-drop, drop-cons}
+use Rattle.std.proofs.Common.{◌≡◌, ◌≢◌, ◌∙◌, refl, sym, ap, subst, ◌⊎◌, inl, inr, ⊎_elim, ◌↔◌, ℕ, suc, ◌+◌, ◌<◌, List, [], ◌∷◌, ◌++◌, length, take, drop, get_or, map, arith, length-drop, drop-cons}
 use Rattle.std.specs.Prelude.{AllPairs, Contains}
 use Rattle.std.specs.List.{insert, remove}
 use Rattle.std.proofs.lemmas.List.{take-append-drop, get_or-take, get_or-drop, length-take}
@@ -105,18 +105,45 @@ has_insert {X} row i y x =
     let P : List X → Type 0 = λ r. (Contains (insert row i y) x) ↔ ((x ≡ y) ⊎ Contains r x) in
     subst P (take-append-drop i row) (has_with (take i row) y (drop i row) x)
 
-row_cut : {X : Type 0} (row : List X) (i : ℕ) (d : X) → i < length row → take i row ++ get_or row i d ∷ drop (suc i) row ≡ row
-row_cut row i d l = sym (ap (λ r. take i row ++ r) (drop-cons row i d l)) ∙ take-append-drop i row
+pub cut_at : {X : Type 0} (row : List X) (i : ℕ) (d : X) → i < length row → take i row ++ get_or row i d ∷ drop (suc i) row ≡ row
+cut_at row i d l = sym (ap (λ r. take i row ++ r) (drop-cons row i d l)) ∙ take-append-drop i row
 
 pub falling_remove : {X : Type 0} (key : X → List ℕ) (row : List X) (i : ℕ) (d : X) → i < length row → IsFalling key row → IsFalling key (remove row i)
 falling_remove {X} key row i d l h =
     let R : X → X → Type 0 = λ x z. IsBelow (key z) (key x) in
-    pairs_without R (take i row) (get_or row i d) (drop (suc i) row) (subst (AllPairs R) (sym (row_cut row i d l)) h)
+    pairs_without R (take i row) (get_or row i d) (drop (suc i) row) (subst (AllPairs R) (sym (cut_at row i d l)) h)
 
 pub has_remove : {X : Type 0} (key : X → List ℕ) (row : List X) (i : ℕ) (d x : X) → i < length row → IsFalling key row
     → (Contains (remove row i) x) ↔ (Contains row x × (x ≢ get_or row i d))
 has_remove {X} key row i d x l h =
     let R : X → X → Type 0 = λ v w. IsBelow (key w) (key v) in
     let P : List X → Type 0 = λ r. (Contains (remove row i) x) ↔ (Contains r x × (x ≢ get_or row i d)) in
-    subst P (row_cut row i d l)
-    (has_without R (falls key) (take i row) (get_or row i d) (drop (suc i) row) x (subst (AllPairs R) (sym (row_cut row i d l)) h))
+    subst P (cut_at row i d l)
+    (has_without R (falls key) (take i row) (get_or row i d) (drop (suc i) row) x (subst (AllPairs R) (sym (cut_at row i d l)) h))
+
+-- ---- mapped lists
+
+pub Contains-map : {X Y : Type 0} (f : X → Y) (xs : List X) (x : X) → Contains xs x → Contains (map f xs) (f x)
+Contains-map f [] x h = Contains-none x h
+Contains-map {X} {Y} f (y ∷ ys) x h = by (Contains-cases x y ys h) (Contains-map f ys x)
+  where
+    by : (x ≡ y) ⊎ Contains ys x → (Contains ys x → Contains (map f ys) (f x)) → Contains (f y ∷ map f ys) (f x)
+    by (inl e) rest = Contains-here (f x) (f y) (map f ys) (ap f e)
+    by (inr p) rest = Contains-there (f x) (f y) (map f ys) (rest p)
+
+pub Contains-from_map : {X Y : Type 0} (f : X → Y) (xs : List X) (y : Y) → Contains (map f xs) y → (x : X) × Contains xs x × (y ≡ f x)
+Contains-from_map f [] y h = Contains-none y h
+Contains-from_map {X} {Y} f (x ∷ xs) y h = by (Contains-cases y (f x) (map f xs) h) (Contains-from_map f xs y)
+  where
+    by : (y ≡ f x) ⊎ Contains (map f xs) y → (Contains (map f xs) y → (z : X) × Contains xs z × (y ≡ f z)) → (z : X) × Contains (x ∷ xs) z × (y ≡ f z)
+    by (inl e) rest = (x, Contains-here x x xs refl, e)
+    by (inr p) rest = let r = rest p in (r.0, Contains-there r.0 x xs r.1, r.2)
+
+pub pairs_map : {X Y : Type 0} (R : Y → Y → Type 0) (f : X → Y) (xs : List X) → AllPairs (λ v w. R (f v) (f w)) xs → AllPairs R (map f xs)
+pairs_map R f [] h = λ i j d less within. absurd (omega arith)
+pairs_map {X} {Y} R f (x ∷ xs) h =
+    AllPairs-cons R (f x) (map f xs)
+    (All-from_contains (R (f x)) (map f xs)
+    (λ y p. (let r = Contains-from_map f xs y p in
+    subst (R (f x)) (sym r.2) (All-contains (λ w. R (f x) (f w)) xs r.0 (AllPairs-head (λ v w. R (f v) (f w)) x xs h) r.1))))
+    (pairs_map R f xs (AllPairs-tail (λ v w. R (f v) (f w)) x xs h))

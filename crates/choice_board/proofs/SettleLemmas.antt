@@ -6,7 +6,7 @@ use Rattle.ntfe_model.specs.Lists.{IsBelow}
 use Rattle.ntfe_model.specs.Shapes.{Shape}
 use Rattle.ntfe_model.specs.Keys.{IsKey, IsAfter, IsPruned, stem, last_number, item_limit}
 use Rattle.ntfe_model.specs.declared.nogood.Nogood.{Nogood}
-use Rattle.ntfe_model.proofs.Listings.{Contains-here, Contains-there, Contains-cases, Contains-none, All-from_contains, AllPairs-append}
+use Rattle.ntfe_model.proofs.Listings.{Contains-here, Contains-cases, Contains-none, All-from_contains, AllPairs-append}
 use Rattle.ntfe_model.proofs.Orders.{below_chain, three_ways}
 use Rattle.choice_board.specs.Places.{cone, under, IsIn, raised, first_under}
 use Rattle.choice_board.specs.Verdicts.{IsTrueOf, opened_by, recorded_by, pruned_by}
@@ -19,25 +19,8 @@ use Rattle.choice_board.specs.declared.record.Found.{Found}
 use Rattle.choice_board.specs.declared.record.Found.TheVariants.{Class as FoundClass, Wide as FoundWide, Far as FoundFar}
 use Rattle.choice_board.proofs.KeyOrder.{not_below_itself}
 use Rattle.choice_board.proofs.PlaceLemmas.{under_in, padded, padded_under, below_raised, below_first, raised_length, length_snoc, stem_snoc, last_snoc, key_parts}
+use Rattle.choice_board.proofs.RowLemmas.{Contains-map, Contains-from_map}
 use Rattle.choice_board.proofs.Holders.{GivesWay, AreParts, news_of, told_if, news_are_parts, still_held, still_apart}
-
--- ---- mapped lists
-
-Contains-map : {X Y : Type 0} (f : X → Y) (xs : List X) (x : X) → Contains xs x → Contains (map f xs) (f x)
-Contains-map f [] x h = Contains-none x h
-Contains-map {X} {Y} f (y ∷ ys) x h = by (Contains-cases x y ys h) (Contains-map f ys x)
-  where
-    by : (x ≡ y) ⊎ Contains ys x → (Contains ys x → Contains (map f ys) (f x)) → Contains (f y ∷ map f ys) (f x)
-    by (inl e) rest = Contains-here (f x) (f y) (map f ys) (ap f e)
-    by (inr p) rest = Contains-there (f x) (f y) (map f ys) (rest p)
-
-Contains-from_map : {X Y : Type 0} (f : X → Y) (xs : List X) (y : Y) → Contains (map f xs) y → (x : X) × Contains xs x × (y ≡ f x)
-Contains-from_map f [] y h = Contains-none y h
-Contains-from_map {X} {Y} f (x ∷ xs) y h = by (Contains-cases y (f x) (map f xs) h) (Contains-from_map f xs y)
-  where
-    by : (y ≡ f x) ⊎ Contains (map f xs) y → (Contains (map f xs) y → (z : X) × Contains xs z × (y ≡ f z)) → (z : X) × Contains (x ∷ xs) z × (y ≡ f z)
-    by (inl e) rest = (x, Contains-here x x xs refl, e)
-    by (inr p) rest = let r = rest p in (r.0, Contains-there r.0 x xs r.1, r.2)
 
 -- ---- the key gives way to what the verdict brings
 

@@ -2,5 +2,6 @@ pub mod Rows
 pub mod Places
 pub mod Verdicts
 pub mod States
+pub mod Starts
 pub mod Settling
 pub mod Telling
