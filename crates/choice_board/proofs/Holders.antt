@@ -27,7 +27,7 @@ no_parts g old none = record {
   covers = λ c p q. absurd (none c p q);
 }
 
-one_part : (g : Shape) (a : Holder) → AreParts g (place_of a) (a ∷ [])
+pub one_part : (g : Shape) (a : Holder) → AreParts g (place_of a) (a ∷ [])
 one_part g a = record {
   inside = λ h c p q. (let P : Holder → Type 0 = λ x. IsIn (length g.faces) (place_of x) c in subst P (only h p) q);
   apart = λ h i c p q r s. only h p ∙ sym (only i q);

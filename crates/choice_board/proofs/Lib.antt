@@ -5,3 +5,4 @@ pub mod ItemNumbers
 pub mod Holders
 pub mod SettleLemmas
 pub mod StartLemmas
+pub mod TellLemmas

@@ -76,7 +76,7 @@ gives_way s t key v has k = record { had = has; from = from; stays = stays; come
 
 -- ---- what comes is true, and above
 
-after_below : (last : Option (List ℕ)) (j k : List ℕ) → IsAfter last j → IsBelow j k → IsAfter last k
+pub after_below : (last : Option (List ℕ)) (j k : List ℕ) → IsAfter last j → IsBelow j k → IsAfter last k
 after_below None j k a b = a
 after_below (Some l) j k a b = below_chain l j k a b
 
