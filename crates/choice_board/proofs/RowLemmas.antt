@@ -1,13 +1,14 @@
 -- Rows with one thing more or less: their order, and what they have.
-use Rattle.std.proofs.Common.{◌≡◌, ◌≢◌, ◌∙◌, refl, sym, ap, subst, ◌⊎◌, inl, inr, ⊎_elim, ◌↔◌, ℕ, suc, ◌+◌, ◌<◌, List, [], ◌∷◌, ◌++◌, length, take, drop, get_or, map, arith, length-drop, drop-cons}
+use Rattle.std.proofs.Common.{◌≡◌, ◌≢◌, ◌∙◌, refl, sym, ap, subst, ◌⊎◌, inl, inr, ⊎_elim, ◌↔◌, ℕ, suc, ◌+◌, ◌<◌, ◌≤◌, List, [], ◌∷◌, ◌++◌, length, take, drop, get_or, map, arith, length-drop, drop-cons}
 use Rattle.std.specs.Prelude.{AllPairs, Contains}
 use Rattle.std.specs.List.{insert, remove}
-use Rattle.std.proofs.lemmas.List.{take-append-drop, get_or-take, get_or-drop, length-take}
-use Rattle.std.proofs.lemmas.List.Elements.{All-contains, Contains-append_left, Contains-append_right, Contains-append_cases}
+use Rattle.std.proofs.lemmas.List.{get_or_default, take-append-drop, get_or-take, get_or-drop, length-take}
+use Rattle.std.proofs.lemmas.List.Elements.{Contains-get_or, All-contains, Contains-append_left, Contains-append_right, Contains-append_cases}
 use Rattle.std.proofs.lemmas.List.Kept.{AllPairs-cons}
 use Rattle.ntfe_model.specs.Lists.{IsBelow}
+use Rattle.ntfe_model.proofs.Orders.{below_chain}
 use Rattle.ntfe_model.proofs.Listings.{Contains-here, Contains-there, Contains-cases, Contains-none, AllPairs-head, AllPairs-tail, AllPairs-append, All-from_contains}
-use Rattle.choice_board.specs.Rows.{IsFalling, IsPlaceFor}
+use Rattle.choice_board.specs.Rows.{IsFalling, IsFoundAt, IsBetween, IsPlaceFor}
 use Rattle.choice_board.proofs.KeyOrder.{not_below_itself}
 
 -- ---- the two parts of a row
@@ -147,3 +148,86 @@ pairs_map {X} {Y} R f (x ∷ xs) h =
     (λ y p. (let r = Contains-from_map f xs y p in
     subst (R (f x)) (sym r.2) (All-contains (λ w. R (f x) (f w)) xs r.0 (AllPairs-head (λ v w. R (f v) (f w)) x xs h) r.1))))
     (pairs_map R f xs (AllPairs-tail (λ v w. R (f v) (f w)) x xs h))
+
+-- ---- a search by halves
+
+pub search_start : {X : Type 0} (key : X → List ℕ) (row : List X) (numbers : List ℕ) → IsBetween key row numbers 0 (length row)
+search_start key row numbers = record {
+  rising = omega arith;
+  within = omega arith;
+  higher = λ k d l. absurd (omega arith);
+  lower = λ k d l m. absurd (omega arith);
+}
+
+-- what stands at the middle is above the numbers
+pub search_behind : {X : Type 0} (key : X → List ℕ) (row : List X) (numbers : List ℕ) (low high middle : ℕ) (e : X) → IsFalling key row → IsBetween key row numbers low high → middle < high
+    → IsBelow numbers (key (get_or row middle e)) → IsBetween key row numbers (middle + 1) high
+search_behind {X} key row numbers low high middle e falling b less below = record {
+  rising = omega arith;
+  within = b.within;
+  higher = λ k d l. higher k d l;
+  lower = b.lower;
+}
+  where
+    inside : middle < length row
+    inside = let w = b.within in omega arith
+
+    here : (d : X) → IsBelow numbers (key (get_or row middle d))
+    here d = let P : X → Type 0 = λ x. IsBelow numbers (key x) in subst P (get_or_default row middle e d inside) below
+
+    higher : (k : ℕ) (d : X) → k < middle + 1 → IsBelow numbers (key (get_or row k d))
+    higher k d l =
+        ⊎_elim (λ s. (let P : ℕ → Type 0 = λ i. IsBelow numbers (key (get_or row i d)) in subst P (sym s) (here d)))
+        (λ s. below_chain numbers (key (get_or row middle d)) (key (get_or row k d)) (here d) (falling k middle d s inside))
+        (let r : (k ≡ middle) ⊎ (k < middle) = grind arith in r)
+
+-- what stands at the middle is below the numbers
+pub search_before : {X : Type 0} (key : X → List ℕ) (row : List X) (numbers : List ℕ) (low high middle : ℕ) (e : X) → IsFalling key row → IsBetween key row numbers low high
+    → low ≤ middle → middle < high → IsBelow (key (get_or row middle e)) numbers → IsBetween key row numbers low middle
+search_before {X} key row numbers low high middle e falling b least less below = record {
+  rising = least;
+  within = (let w = b.within in omega arith);
+  higher = b.higher;
+  lower = λ k d l m. lower k d l m;
+}
+  where
+    inside : middle < length row
+    inside = let w = b.within in omega arith
+
+    here : (d : X) → IsBelow (key (get_or row middle d)) numbers
+    here d = let P : X → Type 0 = λ x. IsBelow (key x) numbers in subst P (get_or_default row middle e d inside) below
+
+    lower : (k : ℕ) (d : X) → middle ≤ k → k < length row → IsBelow (key (get_or row k d)) numbers
+    lower k d l m =
+        ⊎_elim (λ s. (let P : ℕ → Type 0 = λ i. IsBelow (key (get_or row i d)) numbers in subst P (sym s) (here d)))
+        (λ s. below_chain (key (get_or row k d)) (key (get_or row middle d)) numbers (falling middle k d s m) (here d))
+        (let r : (k ≡ middle) ⊎ (middle < k) = grind arith in r)
+
+pub search_done : {X : Type 0} (key : X → List ℕ) (row : List X) (numbers : List ℕ) (low high : ℕ) → IsBetween key row numbers low high → high ≤ low → IsPlaceFor key row numbers low
+search_done key row numbers low high b ended =
+    let e : high ≡ low = (let r = b.rising in omega arith) in
+    let P : ℕ → Type 0 = λ i. IsBetween key row numbers low i in
+    subst P e b
+
+pub same_at : {X : Type 0} (key : X → List ℕ) (row : List X) (numbers : List ℕ) (i : ℕ) (e d : X) → i < length row → key (get_or row i e) ≡ numbers → key (get_or row i d) ≡ numbers
+same_at key row numbers i e d inside h = ap key (get_or_default row i d e inside) ∙ h
+
+-- ---- after an insert in code: `seen` is the row as it was searched, `numbers` the numbers that were looked for
+
+pub inserted_falls : {X : Type 0} (key : X → List ℕ) (row seen new : List X) (numbers : List ℕ) (i : ℕ) (y : X) → seen ≡ row → numbers ≡ key y → IsFalling key row
+    → IsPlaceFor key seen numbers i → new ≡ insert row i y → IsFalling key new
+inserted_falls {X} key row seen new numbers i y e f falling p g =
+    let P : List X → Type 0 = λ xs. IsPlaceFor key xs numbers i in
+    let Q : List ℕ → Type 0 = λ ns. IsPlaceFor key row ns i in
+    subst (IsFalling key) (sym g) (falling_insert key row i y falling (subst Q f (subst P e p)))
+
+pub inserted_has : {X : Type 0} (row new : List X) (i : ℕ) (y x : X) → new ≡ insert row i y → (Contains new x) ↔ ((x ≡ y) ⊎ Contains row x)
+inserted_has {X} row new i y x g =
+    let P : List X → Type 0 = λ xs. (Contains xs x) ↔ ((x ≡ y) ⊎ Contains row x) in
+    subst P (sym g) (has_insert row i y x)
+
+pub found_in : {X : Type 0} (key : X → List ℕ) (row seen : List X) (numbers : List ℕ) (i : ℕ) (d : X) → seen ≡ row → IsFoundAt key seen numbers i
+    → (x : X) × Contains row x × (key x ≡ numbers)
+found_in {X} key row seen numbers i d e p =
+    let P : List X → Type 0 = λ xs. (x : X) × Contains xs x × (key x ≡ numbers) in
+    subst P e (get_or seen i d, Contains-get_or seen i d p.0, p.1 d)

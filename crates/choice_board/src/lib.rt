@@ -4,6 +4,7 @@
 
 mod outcome;
 mod record;
+mod rows;
 mod totals;
 mod verdict;
 
