@@ -2,6 +2,7 @@
 #![tactic(auto)]
 
 
+mod made;
 mod outcome;
 mod record;
 mod rows;
