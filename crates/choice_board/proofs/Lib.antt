@@ -6,3 +6,5 @@ pub mod Holders
 pub mod SettleLemmas
 pub mod StartLemmas
 pub mod TellLemmas
+pub mod FaceCount
+pub mod LeastLemmas

@@ -11,6 +11,10 @@ use Rattle.std.proofs.lemmas.List.{take-append-le, take-take, get_or-take, get_o
 use Rattle.std.proofs.lemmas.List.Elements.{All-contains}
 use Rattle.std.proofs.lemmas.Bool.Decides.{nat_tests}
 use Rattle.ntfe_model.specs.Lists.{IsBelow}
+use Rattle.ntfe_model.specs.declared.face.Face.{Face}
+use Rattle.ntfe_model.specs.declared.nogood.Nogood.{Nogood}
+use Rattle.choice_board.specs.declared.record.Record.{Record}
+use Rattle.choice_board.specs.Views.{state_of}
 use Rattle.ntfe_model.specs.Shapes.{Shape, IsShape}
 use Rattle.ntfe_model.specs.Choices.{IsChoice}
 use Rattle.ntfe_model.specs.Keys.{IsKey, IsAfter, IsStart, stem, last_number, item_limit}
@@ -213,3 +217,14 @@ past_start_keys g a start = record {
 pub new_board_sound : (g : Shape) (after : Option (List ℕ)) → IsShape g → IsStart g after → IsSound (new_board g after)
 new_board_sound g None shape start = board_of_keys g None shape (no_start_keys g (nat_eq (length g.faces) 0) refl)
 new_board_sound g (Some a) shape start = board_of_keys g (Some a) shape (past_start_keys g a start)
+
+-- the parts of a new board, as code puts them together
+pub new_parts_sound : (g : Shape) (after : Option (List ℕ)) (faces : List Face) (keys : List (List ℕ)) (recorded : List Record) (pruned : List (List ℕ × Nogood))
+    → IsShape g → IsStart g after → faces ≡ g.faces → keys ≡ start_keys (length faces) after → recorded ≡ [] → pruned ≡ []
+    → IsSound (state_of g after keys recorded pruned None false (record { settled = 0; stale = 0; classes = 0; pruned = 0; written = 0 }))
+new_parts_sound g after faces keys recorded pruned shape start e k r p =
+    let f : keys ≡ start_keys (length g.faces) after = k ∙ ap (λ xs. start_keys (length xs) after) e in
+    let a = sym f in
+    let b = sym r in
+    let d = sym p in
+    subst IsSound (λ i. state_of g after (a i) (b i) (d i) None false (record { settled = 0; stale = 0; classes = 0; pruned = 0; written = 0 })) (new_board_sound g after shape start)

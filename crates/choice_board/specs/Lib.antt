@@ -4,5 +4,6 @@ pub mod Verdicts
 pub mod States
 pub mod Making
 pub mod Starts
+pub mod Views
 pub mod Settling
 pub mod Telling

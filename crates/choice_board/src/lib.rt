@@ -2,14 +2,18 @@
 #![tactic(auto)]
 
 
+mod board;
+mod changes;
 mod made;
 mod outcome;
 mod record;
 mod rows;
+mod start;
 mod totals;
 mod verdict;
 
 
+pub use board::Board;
 pub use outcome::Outcome;
 pub use totals::Totals;
 pub use verdict::{Settled, Verdict};

@@ -1,0 +1,120 @@
+//! The board: open keys, recorded outcomes and pruned keys of one geometry.
+use crate::changes::{insert_keys, make_room, put};
+use crate::made::{copied_keys, made_of, opened_keys};
+use crate::record::{Record, Stop};
+use crate::rows::{Keyed, find};
+use crate::start::start_keys;
+use crate::totals::Totals;
+use crate::verdict::{Settled, Verdict};
+use ntfe_model::{Choice, Geometry, Key, List, Nogood};
+use std::alloc::{AllocError, Global};
+use std::marker::Model;
+
+/// What is known of the choices of a geometry above a start, while they are listed. Each choice
+/// above the class last handed out stands in exactly one place: under an open key, at a recorded
+/// outcome, or under a pruned key.
+#[derive(Drop)]
+pub struct Board {
+    geometry: Geometry,
+    alloc: Global,
+    last: Option<Choice>,
+    keys: Vec<Key>,
+    recorded: Vec<Record>,
+    pruned: Vec<(Key, Nogood)>,
+    stop: Option<Stop>,
+    closed: bool,
+    totals: Totals,
+}
+
+impl Model for Board {
+    ghost use Rattle.choice_board.specs.States.{State};
+
+    ghost Value = { State };
+
+    ghost use Rattle.choice_board.specs.Views.{state_of};
+    ghost use Rattle.choice_board.specs.States.{IsSound};
+
+    ghost view = { λ b. state_of b.geometry b.last b.keys.items b.recorded.items b.pruned.items b.stop b.closed b.totals };
+
+    ghost invariant = { λ b. IsSound (state_of b.geometry b.last b.keys.items b.recorded.items b.pruned.items b.stop b.closed b.totals) };
+}
+
+impl Board {
+    ghost use Rattle.std.specs.Prelude.{◌≡◌, ◌↔◌, ⊤, ◌⊎◌, true, false, [], IfOk, IsTrue, MatchOption, OnErr};
+    ghost use Rattle.ntfe_model.specs.Keys.{IsStart};
+    ghost use Rattle.choice_board.specs.Starts.{new_board};
+    ghost use Rattle.choice_board.specs.States.{IsSound};
+    ghost use Rattle.choice_board.specs.Telling.{IsLeastOpen};
+
+    /// A board on which all choices above `after` are open, or all choices where it is `None`.
+    ///
+    /// # Errors
+    /// `AllocError` where memory is short.
+    pub fn new(alloc: Global, geometry: Geometry, after: Option<Choice>) -> Result<Board, AllocError>
+        requires { IsStart geometry after }
+        ensures value { IfOk result (λ b. b ≡ new_board geometry after) }
+        ensures sound { IfOk result IsSound }
+    {
+        let faces = geometry.faces().len();
+        let keys = start_keys(alloc, faces, &after)?;
+        Ok(Board {
+            geometry,
+            alloc,
+            last: after,
+            keys,
+            recorded: Vec::new(alloc),
+            pruned: Vec::new(alloc),
+            stop: None,
+            closed: false,
+            totals: Totals {
+                settled: 0,
+                stale: 0,
+                classes: 0,
+                pruned: 0,
+                written: 0,
+            },
+        })
+    }
+
+    /// The geometry.
+    pub fn geometry(&self) -> &Geometry
+        ensures value { result.now ≡ self.now.geometry }
+        ensures sound { IsSound self.now }
+    {
+        &self.geometry
+    }
+
+    /// The least open key; none where no key is open, or the board is closed. Takes no memory.
+    pub fn least(&self) -> Option<&Key>
+        ensures value { MatchOption result ((self.now.closed ≡ true) ⊎ (self.now.open_keys ≡ [])) (λ k. (self.now.closed ≡ false) × IsLeastOpen self.now k.now) }
+        ensures sound { IsSound self.now }
+    {
+        if self.closed {
+            return None;
+        }
+        self.keys.last()
+    }
+
+    /// From now on no open key is given out.
+    pub fn close(&mut self)
+        ensures value { self.new ≡ record self.old { closed = true } }
+        ensures sound { IsSound self.new }
+    {
+        self.closed = true;
+    }
+
+    /// The totals.
+    pub fn totals(&self) -> Totals
+        ensures { result ≡ self.now.totals }
+    {
+        self.totals
+    }
+
+    /// The pruned keys with the certificates that block them, in the order in which they came.
+    pub fn pruned(&self) -> &[(Key, Nogood)]
+        ensures value { result.now ≡ self.now.pruned }
+        ensures sound { IsSound self.now }
+    {
+        self.pruned.as_slice()
+    }
+}
