@@ -8,3 +8,4 @@ pub mod StartLemmas
 pub mod TellLemmas
 pub mod FaceCount
 pub mod LeastLemmas
+pub mod CloseLemmas

@@ -261,3 +261,13 @@ pub has_other : {X : Type 0} {Y : X → Type 0} (row new : List X) (y : X) → (
     → (x : X) → (Contains new x) ↔ (Contains row x ⊎ Y x)
 has_other row new y has same x =
     (λ p. ⊎_elim (λ e. inr ((same x).1 e)) (λ q. inl q) ((has x).0 p), λ p. (has x).1 (⊎_elim (λ q. inr q) (λ q. inl ((same x).0 q)) p))
+
+-- ---- numbers that belong at a place are not in the row
+
+pub absent : {X : Type 0} (key : X → List ℕ) (row : List X) (numbers : List ℕ) (i : ℕ) → IsPlaceFor key row numbers i → (x : X) → Contains row x → key x ≢ numbers
+absent {X} key row numbers i p x (k, l, e) same =
+    let f : key (get_or row k x) ≡ numbers = ap key e ∙ same in
+    ⊎_elim
+    (λ early. not_below_itself numbers (subst (IsBelow numbers) f (p.higher k x early)))
+    (λ late. (let P : List ℕ → Type 0 = λ v. IsBelow v numbers in not_below_itself numbers (subst P f (p.lower k x late l))))
+    (let d : (k < i) ⊎ (i ≤ k) = grind arith in d)

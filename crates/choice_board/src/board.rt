@@ -44,7 +44,9 @@ impl Board {
     ghost use Rattle.ntfe_model.specs.Keys.{IsStart};
     ghost use Rattle.choice_board.specs.Starts.{new_board};
     ghost use Rattle.choice_board.specs.States.{IsSound};
+    ghost use Rattle.choice_board.specs.Settling.{IsSettledAs};
     ghost use Rattle.choice_board.specs.Telling.{IsLeastOpen};
+    ghost use Rattle.choice_board.specs.Verdicts.{IsTrueOf};
 
     /// A board on which all choices above `after` are open, or all choices where it is `None`.
     ///
@@ -116,5 +118,35 @@ impl Board {
         ensures sound { IsSound self.now }
     {
         self.pruned.as_slice()
+    }
+
+    /// Closes the key with the verdict, if it is open: what was found is recorded, and the keys that
+    /// the verdict opens are opened. The verdict on a key that is not open is counted, and nothing
+    /// else changes.
+    ///
+    /// # Errors
+    /// `AllocError` where memory is short. The board is as it was.
+    pub fn settle(&mut self, key: &Key, verdict: Verdict) -> Result<Settled, AllocError>
+        requires { IsTrueOf self.old.geometry key.now verdict }
+        ensures answer { IfOk result (λ a. IsSettledAs self.old self.new key.now verdict a) }
+        ensures error { OnErr result (self.new ≡ self.old) }
+        ensures sound { IsSound self.new }
+    {
+        let Ok(place) = find(self.keys.as_slice(), key.numbers()) else {
+            self.totals = self.totals.with_stale();
+            return Ok(Settled::Stale);
+        };
+        let opened = opened_keys(self.alloc, key, &verdict)?;
+        let news = copied_keys(self.alloc, opened.as_slice())?;
+        let totals = self.totals.with_taken(&verdict);
+        let made = made_of(self.alloc, key, verdict)?;
+        make_room(&mut self.keys, &mut self.recorded, &mut self.pruned)?;
+        let own = self.keys.remove(place);
+        insert_keys(&mut self.keys, news);
+        put(&mut self.recorded, &mut self.pruned, own, made);
+        self.totals = totals;
+        Ok(Settled::Taken {
+            opened: List::from_vec(opened),
+        })
     }
 }
