@@ -9,3 +9,5 @@ pub mod TellLemmas
 pub mod FaceCount
 pub mod LeastLemmas
 pub mod CloseLemmas
+pub mod TurnLemmas
+pub mod OutcomeLemmas

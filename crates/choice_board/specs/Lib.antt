@@ -5,5 +5,6 @@ pub mod States
 pub mod Making
 pub mod Starts
 pub mod Views
+pub mod Turns
 pub mod Settling
 pub mod Telling

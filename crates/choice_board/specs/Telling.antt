@@ -1,5 +1,5 @@
 -- What a board hands out, and in which order.
-use Rattle.std.specs.Prelude.{◌≡◌, ℕ, ◌+◌, ◌⊎◌, List, [], ◌∷◌, ◌++◌, length, Some, None, All, Contains}
+use Rattle.std.specs.Prelude.{◌≡◌, ℕ, ◌+◌, ◌-◌, ◌<◌, ◌⊎◌, List, [], ◌∷◌, ◌++◌, length, Some, None, All, Contains}
 use Rattle.ntfe_model.specs.Lists.{IsBelow}
 use Rattle.ntfe_model.specs.Choices.{IsChoice}
 use Rattle.ntfe_model.specs.Keys.{IsAfter, BeginsWith}
@@ -14,6 +14,12 @@ use Rattle.choice_board.specs.declared.record.Found.TheVariants.{Class as FoundC
 use Rattle.choice_board.specs.declared.record.Stop.TheVariants.{Wide as StopWide, Far as StopFar}
 use Rattle.choice_board.specs.declared.totals.Totals.{Totals}
 
+-- what is told of a key where this was found
+abbrev pub outcome_told : List ℕ → Found → Outcome
+outcome_told key (FoundClass choice w) = Class choice w
+outcome_told key (FoundWide choice step number) = Wide choice step number
+outcome_told key FoundFar = Far (length key - 1)
+
 -- the least open key
 abbrev pub IsLeastOpen : State → List ℕ → Type 0
 IsLeastOpen s key = Contains s.open_keys key × All (λ j. (j ≡ key) ⊎ IsBelow key j) s.open_keys
@@ -27,6 +33,10 @@ pub record IsNext (s : State) (r : Record) : Type 0 where
 -- the choice begins with the head of a pruned key
 abbrev pub IsBlocked : State → List ℕ → Type 0
 IsBlocked s choice = (p : List ℕ × Nogood) × Contains s.pruned p × BeginsWith p.0 choice
+
+-- each choice above the last class begins with the head of a pruned key, where there are two-faces
+abbrev pub AreAllBlocked : State → Type 0
+AreAllBlocked s = 0 < length s.geometry.faces → (choice : List ℕ) → IsChoice s.geometry choice → IsAfter s.last choice → IsBlocked s choice
 
 -- the record leaves the board, and all but the last class, the stop and the totals stay
 pub record IsTaken (s t : State) (key : List ℕ) (found : Found) : Type 0 where

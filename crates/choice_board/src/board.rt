@@ -1,10 +1,12 @@
 //! The board: open keys, recorded outcomes and pruned keys of one geometry.
 use crate::changes::{insert_keys, make_room, put};
-use crate::made::{copied_keys, made_of, opened_keys};
+use crate::made::{choice_from, copied_keys, made_of, opened_keys};
+use crate::outcome::{Outcome, outcome_of};
 use crate::record::{Record, Stop};
 use crate::rows::{Keyed, find};
 use crate::start::start_keys;
 use crate::totals::Totals;
+use crate::turn::has_turn;
 use crate::verdict::{Settled, Verdict};
 use ntfe_model::{Choice, Geometry, Key, List, Nogood};
 use std::alloc::{AllocError, Global};
@@ -40,12 +42,12 @@ impl Model for Board {
 }
 
 impl Board {
-    ghost use Rattle.std.specs.Prelude.{◌≡◌, ◌↔◌, ⊤, ◌⊎◌, true, false, [], IfOk, IsTrue, MatchOption, OnErr};
+    ghost use Rattle.std.specs.Prelude.{◌≡◌, ◌↔◌, ◌⊎◌, true, false, [], None, Some, IfOk, IsTrue, MatchOption, OnErr};
     ghost use Rattle.ntfe_model.specs.Keys.{IsStart};
     ghost use Rattle.choice_board.specs.Starts.{new_board};
     ghost use Rattle.choice_board.specs.States.{IsSound};
     ghost use Rattle.choice_board.specs.Settling.{IsSettledAs};
-    ghost use Rattle.choice_board.specs.Telling.{IsLeastOpen};
+    ghost use Rattle.choice_board.specs.Telling.{AreAllBlocked, IsHandedOut, IsLeastOpen, IsWaiting};
     ghost use Rattle.choice_board.specs.Verdicts.{IsTrueOf};
 
     /// A board on which all choices above `after` are open, or all choices where it is `None`.
@@ -148,5 +150,61 @@ impl Board {
         Ok(Settled::Taken {
             opened: List::from_vec(opened),
         })
+    }
+
+    /// The least recorded outcome that was not handed out, which leaves the board. None where there
+    /// is none, an open key is not above it, or a wide choice or a far key was handed out. A class
+    /// becomes the last class; after a wide choice or a far key nothing more is handed out. Takes no
+    /// memory.
+    pub fn ready(&mut self) -> Option<Outcome>
+        ensures answer { MatchOption result ((self.new ≡ self.old) × IsWaiting self.old) (λ o. IsHandedOut self.old self.new o) }
+        ensures sound { IsSound self.new }
+    {
+        if self.stop.is_some() || !has_turn(self.recorded.as_slice(), self.keys.as_slice()) {
+            return None;
+        }
+        let Record { key, found } = self.recorded.pop()?;
+        let outcome = outcome_of(&key, found);
+        match &outcome {
+            Outcome::Class(..) => {
+                self.last = Some(choice_from(key));
+                self.totals = self.totals.with_written();
+                Some(outcome)
+            }
+            Outcome::Wide { .. } => {
+                self.stop = Some(Stop::Wide(key));
+                Some(outcome)
+            }
+            Outcome::Far { .. } => {
+                self.stop = Some(Stop::Far(key));
+                Some(outcome)
+            }
+        }
+    }
+
+    /// The class last handed out; before the first, where the list begins. Takes no memory.
+    pub fn last(&self) -> Option<&Choice>
+        ensures value { MatchOption result (self.now.last ≡ None) (λ c. self.now.last ≡ Some c.now) }
+        ensures sound { IsSound self.now }
+    {
+        self.last.as_ref()
+    }
+
+    /// Whether a wide choice or a far key was handed out, so that nothing more will be.
+    pub fn stopped(&self) -> bool
+        ensures value { IsTrue result ↔ (¬ (self.now.stop ≡ None)) }
+        ensures sound { IsSound self.now }
+    {
+        self.stop.is_some()
+    }
+
+    /// Whether no key is open and all outcomes are handed out. Where the board has not stopped, each
+    /// choice above the last class then begins with a pruned key.
+    pub fn finished(&self) -> bool
+        ensures value { IsTrue result ↔ ((self.now.open_keys ≡ []) × (self.now.recorded ≡ [])) }
+        ensures all { IsTrue result → self.now.stop ≡ None → AreAllBlocked self.now }
+        ensures sound { IsSound self.now }
+    {
+        self.keys.is_empty() && self.recorded.is_empty()
     }
 }

@@ -10,6 +10,7 @@ mod record;
 mod rows;
 mod start;
 mod totals;
+mod turn;
 mod verdict;
 
 

@@ -86,6 +86,14 @@ pub fn choice_of(alloc: Global, key: &Key) -> Result<Choice, AllocError>
     Ok(Choice(List::from_vec(items)))
 }
 
+/// The choice that a key is.
+pub fn choice_from(key: Key) -> Choice
+    ensures { result ≡ key }
+{
+    let Key(numbers) = key;
+    Choice(numbers)
+}
+
 /// What the verdict leaves of the key.
 pub fn made_of(alloc: Global, key: &Key, verdict: Verdict) -> Result<Made, AllocError>
     ensures recorded { IfOk result (λ m. record_made key.now m ≡ recorded_by key.now verdict) }
