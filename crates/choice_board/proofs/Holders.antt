@@ -46,12 +46,12 @@ two_parts : (g : Shape) (old : Place) (a b : Holder)
 two_parts g old a b first second never split = record {
   inside = λ h c p q. ⊎_elim (λ e. first c (moved h a c e q)) (λ e. second c (moved h b c e q)) (which h p);
   apart = λ h i c p q r s.
-    ⊎_elim
+      ⊎_elim
       (λ e. ⊎_elim (λ f. e ∙ sym f) (λ f. absurd (never c (moved h a c e r) (moved i b c f s))) (which i q))
       (λ e. ⊎_elim (λ f. absurd (never c (moved i a c f s) (moved h b c e r))) (λ f. e ∙ sym f) (which i q))
       (which h p);
   covers = λ c p q.
-    ⊎_elim (λ r. (a, Contains-here a a (b ∷ []) refl, r)) (λ r. (b, Contains-there b a (b ∷ []) (Contains-here b b [] refl), r)) (split c q);
+      ⊎_elim (λ r. (a, Contains-here a a (b ∷ []) refl, r)) (λ r. (b, Contains-there b a (b ∷ []) (Contains-here b b [] refl), r)) (split c q);
 }
   where
     which : (h : Holder) → Contains (a ∷ b ∷ []) h → (h ≡ a) ⊎ (h ≡ b)

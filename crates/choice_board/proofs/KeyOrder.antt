@@ -1,5 +1,5 @@
 -- The order of keys, at heads that they share.
-use Rattle.std.proofs.Common.{◌≡◌, ◌∙◌, refl, sym, ap, ◌⊎◌, inl, inr, ℕ, ◌<◌, List, [], ◌∷◌, ◌++◌, arith}
+use Rattle.std.proofs.Common.{◌≡◌, ◌∙◌, refl, sym, ap, subst, ◌⊎◌, inl, inr, ℕ, ◌<◌, List, [], ◌∷◌, ◌++◌, arith}
 use Rattle.std.specs.Ordering.{nat_cmp, ordering_then, ordering_reverse}
 use Rattle.std.specs.declared.cmp.Ordering.TheVariants.{Less, Equal, Greater}
 use Rattle.std.specs.Cmp.Lexicographic.{slice_cmp, nat_list_cmp_total}
@@ -45,3 +45,13 @@ same_from_equal v w q = by (three_ways v w)
     by (inl l) = absurd (let e : Less ≡ Equal = sym l ∙ q in cc)
     by (inr (inl e)) = e
     by (inr (inr l)) = absurd (let e : Less ≡ ordering_reverse Equal = sym l ∙ nat_list_cmp_total.antisymm w v ∙ ap ordering_reverse q in cc)
+
+-- what a comparison answered, once the second list is read
+pub below_read : (v w x : List ℕ) → Less ≡ slice_cmp nat_cmp v w → w ≡ x → IsBelow v x
+below_read v w x e f = sym (ap (slice_cmp nat_cmp v) f) ∙ sym e
+
+pub above_read : (v w x : List ℕ) → Greater ≡ slice_cmp nat_cmp v w → w ≡ x → IsBelow x v
+above_read v w x e f = let P : List ℕ → Type 0 = λ y. IsBelow y v in subst P f (below_from_above v w (sym e))
+
+pub same_read : (v w x : List ℕ) → Equal ≡ slice_cmp nat_cmp v w → w ≡ x → x ≡ v
+same_read v w x e f = sym f ∙ sym (same_from_equal v w (sym e))

@@ -36,7 +36,7 @@ has_end s rest r b e f (others, q, g, clear) row = record {
   running = none_from_test s.stop b e f;
   row = row;
   clear = (let same : q ≡ r = sym (end_of s.recorded others q r g) ∙ end_of s.recorded rest r r row in
-    let P : Record → Type 0 = λ x. All (IsBelow x.key) s.open_keys in subst P same clear);
+      let P : Record → Type 0 = λ x. All (IsBelow x.key) s.open_keys in subst P same clear);
 }
 
 is_recorded : (s : State) (rest : List Record) (r : Record) → IsSound s → HasEnd s rest r → Contains s.recorded r

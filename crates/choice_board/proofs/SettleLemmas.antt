@@ -67,11 +67,11 @@ gives_way s t key v has k = record { had = has; from = from; stays = stays; come
         (λ q. (let r = Contains-from_map waits (opened_by key v) h q in
         subst (IsHolder t) (sym r.2) ((k.open_keys r.0).1 (inr r.1))))
         (λ q. ⊎_elim
-          (λ u. (let r = told_from (recorded_by key v) h u in subst (IsHolder t) (sym r.2) ((k.recorded r.0).1 (inr r.1))))
-          (λ u. (let r = Contains-from_map blocks (pruned_by key v) h u in
-          let P : List (List ℕ × Nogood) → Type 0 = λ xs. Contains xs r.0 in
-          subst (IsHolder t) (sym r.2) (subst P (sym k.pruned) (Contains-append_right s.pruned (pruned_by key v) r.0 r.1))))
-          (Contains-append_cases (told_if (recorded_by key v)) (map blocks (pruned_by key v)) h q))
+        (λ u. (let r = told_from (recorded_by key v) h u in subst (IsHolder t) (sym r.2) ((k.recorded r.0).1 (inr r.1))))
+        (λ u. (let r = Contains-from_map blocks (pruned_by key v) h u in
+        let P : List (List ℕ × Nogood) → Type 0 = λ xs. Contains xs r.0 in
+        subst (IsHolder t) (sym r.2) (subst P (sym k.pruned) (Contains-append_right s.pruned (pruned_by key v) r.0 r.1))))
+        (Contains-append_cases (told_if (recorded_by key v)) (map blocks (pruned_by key v)) h q))
         (Contains-append_cases (map waits (opened_by key v)) (told_if (recorded_by key v) ++ map blocks (pruned_by key v)) h p)
 
 -- ---- what comes is true, and above
@@ -197,8 +197,8 @@ sound_here s t key v sound has true_of k falling records_falling = record {
   records_above = All-from_contains (λ r. IsAfter s.last r.key) t.recorded (λ r p. ⊎_elim (λ q. All-contains (λ r'. IsAfter s.last r'.key) s.recorded r sound.records_above q) (λ e. subst (IsAfter s.last) (sym (recordable g key v r true_of e).1) after) ((k.recorded r).0 p));
   blocked = subst (All (λ p. IsPruned g p.0 p.1)) (sym k.pruned) (All-append (λ p. IsPruned g p.0 p.1) s.pruned (pruned_by key v) sound.blocked (All-from_contains (λ p. IsPruned g p.0 p.1) (pruned_by key v) (λ p q. (blockable g key v true_of p q).0)));
   once = subst (AllPairs (λ p q. p.0 ≢ q.0)) (sym k.pruned)
-    (AllPairs-append (λ p q. p.0 ≢ q.0) s.pruned (pruned_by key v) sound.once (few_pruned key v)
-    (λ p q a b e. not_pruned s sound key has p a (e ∙ (blockable g key v true_of q b).1)));
+      (AllPairs-append (λ p q. p.0 ≢ q.0) s.pruned (pruned_by key v) sound.once (few_pruned key v)
+      (λ p q a b e. not_pruned s sound key has p a (e ∙ (blockable g key v true_of q b).1)));
   held = λ some. still_held g s.last s t (waits key) (news_of key v) way parts (sound.held some);
   apart = still_apart g s t (waits key) (news_of key v) way parts sound.apart;
 }

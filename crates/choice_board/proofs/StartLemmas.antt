@@ -68,10 +68,10 @@ past_is_key g a k long small l =
       at_most = omega arith;
       last = omega arith;
       others = subst (All (λ n. n < item_limit g)) (sym (past_stem a k))
-        (λ i d m. (let t = length-take-le k a (omega arith) in
-        let P : ℕ → Type 0 = λ x. x < item_limit g in
-        let early : i < k = omega arith in
-        subst P (sym (get_or-take k a i d early)) (small i d (omega arith))));
+          (λ i d m. (let t = length-take-le k a (omega arith) in
+          let P : ℕ → Type 0 = λ x. x < item_limit g in
+          let early : i < k = omega arith in
+          subst P (sym (get_or-take k a i d early)) (small i d (omega arith))));
     }
 
 start_below : (a : List ℕ) (k : ℕ) → k < length a → IsBelow a (key_past a k)
@@ -183,9 +183,9 @@ past_start_keys g a start = record {
   falling = pairs_map (λ j k. IsBelow k j) (key_past a) (range_with_len 0 (length a)) (λ i j d l m. past_falls a _ _ ((listing_range 0 (length a)).ordered i j d l m) (within j d m));
   above = All-from_contains (IsAfter (Some a)) keys (λ k p. (let r = place k p in subst (IsAfter (Some a)) (sym r.2) (start_below a r.0 r.1)));
   held = λ some c choice above. (
-    let r = past_held a c (start.0 ∙ sym choice.faces) above in
-    let P : ℕ → Type 0 = λ n. IsIn n (cone (key_past a r.0)) c in
-    (key_past a r.0, Contains-map (key_past a) (range_with_len 0 (length a)) r.0 ((listing_range 0 (length a)).complete r.0 (omega arith, (let l = r.1 in omega arith))), subst P start.0 r.2));
+      let r = past_held a c (start.0 ∙ sym choice.faces) above in
+      let P : ℕ → Type 0 = λ n. IsIn n (cone (key_past a r.0)) c in
+      (key_past a r.0, Contains-map (key_past a) (range_with_len 0 (length a)) r.0 ((listing_range 0 (length a)).complete r.0 (omega arith, (let l = r.1 in omega arith))), subst P start.0 r.2));
   apart = λ j k c p q x y. (let r = place j p in let s = place k q in same j k c r s x y);
 }
   where

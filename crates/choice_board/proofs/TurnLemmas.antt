@@ -94,9 +94,9 @@ next_has_turn s r sound next = (take n s.recorded, r, ended s.recorded r some (s
             ⊎_elim
             (λ same. ap (λ m. get_or s.recorded m r) (sym same) ∙ at)
             (λ less. ⊎_elim (λ e. e)
-              (λ up. absurd (let P : Record → Type 0 = λ x. IsBelow (get_or s.recorded (length s.recorded - 1) r).key x.key in
-              below_once r.key (get_or s.recorded (length s.recorded - 1) r).key up (subst P at (sound.records_falling i (length s.recorded - 1) r less (omega arith)))))
-              (next.least (length s.recorded - 1) r (omega arith)))
+            (λ up. absurd (let P : Record → Type 0 = λ x. IsBelow (get_or s.recorded (length s.recorded - 1) r).key x.key in
+            below_once r.key (get_or s.recorded (length s.recorded - 1) r).key up (subst P at (sound.records_falling i (length s.recorded - 1) r less (omega arith)))))
+            (next.least (length s.recorded - 1) r (omega arith)))
             (let d : (i ≡ length s.recorded - 1) ⊎ (i < length s.recorded - 1) = grind arith in d)
 
 pub waits_without_turn : (s : State) → IsSound s → ¬ (HasTurn s.recorded s.open_keys) → IsWaiting s

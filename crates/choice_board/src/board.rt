@@ -54,7 +54,11 @@ impl Board {
     ///
     /// # Errors
     /// `AllocError` where memory is short.
-    pub fn new(alloc: Global, geometry: Geometry, after: Option<Choice>) -> Result<Board, AllocError>
+    pub fn new(
+        alloc: Global,
+        geometry: Geometry,
+        after: Option<Choice>,
+    ) -> Result<Board, AllocError>
         requires { IsStart geometry after }
         ensures value { IfOk result (λ b. b ≡ new_board geometry after) }
         ensures sound { IfOk result IsSound }

@@ -45,12 +45,7 @@ pub fn insert_keys(row: &mut Vec<Key>, mut keys: Vec<Key>)
 }
 
 /// Puts what was made of a key into its row, which has room. No recorded outcome has the key.
-pub fn put(
-    recorded: &mut Vec<Record>,
-    pruned: &mut Vec<(Key, Nogood)>,
-    key: Key,
-    made: Made,
-)
+pub fn put(recorded: &mut Vec<Record>, pruned: &mut Vec<(Key, Nogood)>, key: Key, made: Made)
     requires falling { IsFalling (λ r. r.key) recorded.old.items }
     requires recorded_room { vec_len recorded.old < vec_capacity recorded.old }
     requires pruned_room { vec_len pruned.old < vec_capacity pruned.old }

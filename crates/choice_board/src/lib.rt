@@ -1,7 +1,6 @@
 //! The board of open keys: which choices are still to be looked at, and what was found.
 #![tactic(auto)]
 
-
 mod board;
 mod changes;
 mod made;
@@ -12,7 +11,6 @@ mod start;
 mod totals;
 mod turn;
 mod verdict;
-
 
 pub use board::Board;
 pub use outcome::Outcome;

@@ -50,21 +50,14 @@ pub fn opened_keys(alloc: Global, key: &Key, verdict: &Verdict) -> Result<Vec<Ke
     requires small { last_number key.now < 2 ^ 32 - 1 }
     ensures { IfOk result (λ v. v.items ≡ opened_by key.now verdict.now) }
 {
-    let mut keys = Vec::new(alloc);
-    match verdict {
-        Verdict::End | Verdict::Far => Ok(keys),
-        Verdict::Descend => {
-            keys.reserve_exact(2)?;
-            keys.push(key_under(alloc, key)?)?;
-            keys.push(raised_key(alloc, key)?)?;
-            Ok(keys)
-        }
+    let keys = match verdict {
+        Verdict::End | Verdict::Far => Vec::new(alloc),
+        Verdict::Descend => vec![in alloc; key_under(alloc, key)?, raised_key(alloc, key)?]?,
         Verdict::Pruned(_) | Verdict::Class(_) | Verdict::Wide { .. } => {
-            keys.reserve_exact(1)?;
-            keys.push(raised_key(alloc, key)?)?;
-            Ok(keys)
+            vec![in alloc; raised_key(alloc, key)?]?
         }
-    }
+    };
+    Ok(keys)
 }
 
 /// Equal keys.

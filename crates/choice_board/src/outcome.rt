@@ -18,7 +18,9 @@ pub enum Outcome {
         number: i128,
     },
     /// The two-face, from 0, has an item whose number is the item limit.
-    Far { face: u32 },
+    Far {
+        face: u32,
+    },
 }
 
 /// What is told of a key where this was found.

@@ -47,7 +47,11 @@ fn first_keys(alloc: Global, faces: usize) -> Result<Vec<Key>, AllocError>
 }
 
 /// The keys whose cones have all choices above the start, and no others.
-pub fn start_keys(alloc: Global, faces: usize, start: &Option<Choice>) -> Result<Vec<Key>, AllocError>
+pub fn start_keys(
+    alloc: Global,
+    faces: usize,
+    start: &Option<Choice>,
+) -> Result<Vec<Key>, AllocError>
     requires { MatchOption start.now ⊤ (λ s. All (λ n. n < 2 ^ 32 - 1) s) }
     ensures { IfOk result (λ v. v.items ≡ starts.start_keys faces start.now) }
 {

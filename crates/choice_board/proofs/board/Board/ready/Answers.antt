@@ -10,13 +10,15 @@ use Rattle.choice_board.proofs.board.Board.ready.Goals as goal
 pub returns-then-is_some-clause-answer : goal.returns-then-is_some-clause-answer
 returns-then-is_some-clause-answer c =
     let s = state_of c.self.inside.geometry c.self.inside.last c.self.inside.keys.items c.self.inside.recorded.items c.self.inside.pruned.items c.self.inside.stop c.self.inside.closed c.self.inside.totals in
-    let sound : IsSound s = c.self.invariant in
-    (refl, subst IsWaiting c.self.view_is
-    (elim c.then-is_some.branch [
-      then-is_some-via-then-is_some w ↦ stopped_waits s c.is_some.result c.is_some.ensures w.if-is_some.true
-    | then-is_some-via-else-is_some+then-not-has_turn w ↦
-        no_turn_waits s w.as_slice.result.now w.as_slice-else-is_some.result.now sound w.as_slice.ensures.value w.as_slice-else-is_some.ensures.value (w.if-not-has_turn.ensures.when_false refl)
-    ]))
+    let sound : IsSound s = c.self.invariant in (
+      refl,
+      subst IsWaiting c.self.view_is
+          (elim c.then-is_some.branch [
+            | then-is_some-via-then-is_some w ↦ stopped_waits s c.is_some.result c.is_some.ensures w.if-is_some.true
+            | then-is_some-via-else-is_some+then-not-has_turn w ↦
+                no_turn_waits s w.as_slice.result.now w.as_slice-else-is_some.result.now sound w.as_slice.ensures.value w.as_slice-else-is_some.ensures.value (w.if-not-has_turn.ensures.when_false refl)
+          ]),
+    )
 
 pub outcome_of-outcome-requires-clause-few : goal.outcome_of-outcome-requires-clause-few
 outcome_of-outcome-requires-clause-few c =
@@ -123,4 +125,3 @@ returns-in-Far-clause-answer c =
     let t = stop_state s c.pop.new.self.items (StopFar r.key) in
     let P : State → Type 0 = λ x. IsHandedOut x t c.outcome_of-outcome.result in
     subst P c.self.view_is (subst (IsHandedOut s t) (sym (c.outcome_of-outcome.ensures ∙ ap (outcome_told r.key) f)) (far_handed s c.pop.new.self.items r r.key c.self.invariant e f refl))
-

@@ -57,7 +57,7 @@ closed c =
       records_has = records_through c.make_room.new.recorded.items c.self.inside.recorded.items c.put.new.recorded.items c.remove-own.result c.args.key.now c.in_ok-made.made c.in_ok-make_room.ensures.recorded own c.put.ensures.recorded;
       recorded_made = c.in_ok-made.ensures.recorded;
       pruned_is = c.put.ensures.pruned ∙ ap (λ xs. xs ++ pruned_made c.remove-own.result c.in_ok-made.made) c.in_ok-make_room.ensures.pruned
-        ∙ ap (λ k. c.self.inside.pruned.items ++ pruned_made k c.in_ok-made.made) own;
+          ∙ ap (λ k. c.self.inside.pruned.items ++ pruned_made k c.in_ok-made.made) own;
       pruned_made_is = c.in_ok-made.ensures.pruned;
       totals_are = c.with_taken-totals.ensures;
     }
@@ -81,19 +81,21 @@ pub returns-clause-answer : goal.returns-clause-answer
 returns-clause-answer c =
     let t = state_of c.self.inside.geometry c.self.inside.last c.insert_keys.new.row.items c.put.new.recorded.items c.put.new.pruned.items c.self.inside.stop c.self.inside.closed c.with_taken-totals.result in
     let P : State → Type 0 = λ s. Contains s.open_keys c.args.key.now × IsSettled s t c.args.key.now c.args.verdict in
-    let q = subst P c.self.view_is
-    (at_place c.self.inside.keys.items c.args.key.now c.in-Ok.place (closed c).found,
-    closed_is_settled (was c) c.args.key.now c.args.verdict c.in-Ok.place c.in_ok-made.made c.insert_keys.new.row.items c.put.new.recorded.items c.put.new.pruned.items c.with_taken-totals.result c.self.invariant (closed c)) in
+    let q = subst P c.self.view_is (
+      at_place c.self.inside.keys.items c.args.key.now c.in-Ok.place (closed c).found,
+      closed_is_settled (was c) c.args.key.now c.args.verdict c.in-Ok.place c.in_ok-made.made c.insert_keys.new.row.items c.put.new.recorded.items c.put.new.pruned.items c.with_taken-totals.result c.self.invariant (closed c),
+    ) in
     (q.0, q.1, c.from_vec.ensures ∙ c.in_ok-opened.ensures)
 
 pub returns-in_default-clause-answer : goal.returns-in_default-clause-answer
 returns-in_default-clause-answer c =
     let P : State → Type 0 = λ s. (Contains s.open_keys c.args.key.now → ⊥)
-      × (state_of c.self.inside.geometry c.self.inside.last c.self.inside.keys.items c.self.inside.recorded.items c.self.inside.pruned.items c.self.inside.stop c.self.inside.closed c.with_stale-self-inside.result
-      ≡ record s { totals = totals_stale s.totals }) in
+    × (state_of c.self.inside.geometry c.self.inside.last c.self.inside.keys.items c.self.inside.recorded.items c.self.inside.pruned.items c.self.inside.stop c.self.inside.closed c.with_stale-self-inside.result
+    ≡ record s { totals = totals_stale s.totals }) in
     let Q : List (List ℕ) → Type 0 = λ xs. IsPlaceFor (λ k. k) xs c.numbers.result.now c.in_default.field-0 in
     let p : IsPlaceFor (λ k. k) c.self.inside.keys.items c.numbers.result.now c.in_default.field-0 = subst Q c.as_slice.ensures.value c.in_default.ensures in
     let s = state_of c.self.inside.geometry c.self.inside.last c.self.inside.keys.items c.self.inside.recorded.items c.self.inside.pruned.items c.self.inside.stop c.self.inside.closed c.self.inside.totals in
-    subst P c.self.view_is
-    (λ h. absent (λ k. k) c.self.inside.keys.items c.numbers.result.now c.in_default.field-0 p c.args.key.now h (sym c.numbers.ensures),
-    ap (λ t. record s { totals = t }) c.with_stale-self-inside.ensures)
+    subst P c.self.view_is (
+      λ h. absent (λ k. k) c.self.inside.keys.items c.numbers.result.now c.in_default.field-0 p c.args.key.now h (sym c.numbers.ensures),
+      ap (λ t. record s { totals = t }) c.with_stale-self-inside.ensures,
+    )
