@@ -16,3 +16,6 @@ pub use board::Board;
 pub use outcome::Outcome;
 pub use totals::Totals;
 pub use verdict::{Settled, Verdict};
+
+#[cfg(test)]
+mod tests;
