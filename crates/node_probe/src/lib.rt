@@ -1,0 +1,3 @@
+//! What is found at a key: the end of the items, a certificate, a class, or that the key is to be gone into.
+#![tactic(auto)]
+
