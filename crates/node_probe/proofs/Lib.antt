@@ -1,3 +1,4 @@
 pub mod Heads
 pub mod Extending
 pub mod Counts
+pub mod KeyLemmas

@@ -1,3 +1,5 @@
 //! What is found at a key: the end of the items, a certificate, a class, or that the key is to be gone into.
 #![tactic(auto)]
 
+
+mod fetching;

@@ -1,0 +1,25 @@
+//! The items of a head, fetched.
+ghost use Rattle.std.specs.Prelude.{◌≡◌, ◌<◌, ◌^◌, length, IfOk, MatchBool};
+ghost use Rattle.ntfe_model.specs.Books.{KeepsAll};
+ghost use Rattle.ntfe_model.specs.Keys.{IsKey, IsEnd};
+ghost use Rattle.node_probe.specs.Heads.{KeepsHead};
+
+use ntfe_model::{Book, Key};
+use std::alloc::AllocError;
+
+/// Whether all items of the key's head exist; the book then keeps them.
+pub fn fetch_head<B: Book>(book: &mut B, key: &Key) -> Result<bool, AllocError>
+    requires key { IsKey (B.shape book.old) key.now }
+    requires few { length key.now < 2 ^ 32 }
+    ensures shape { B.shape book.new ≡ B.shape book.old }
+    ensures kept { KeepsAll (B.keeps book.old) (B.keeps book.new) }
+    ensures answer { IfOk result (λ found. MatchBool found (KeepsHead (B.keeps book.new) key.now) (IsEnd (B.shape book.old) key.now)) }
+{
+    let numbers = key.0.as_slice();
+    for face in 0..numbers.len() {
+        if !book.fetch(face as u32, numbers[face])? {
+            return Ok(false);
+        }
+    }
+    Ok(true)
+}
