@@ -1,10 +1,10 @@
 -- The numbers of a key, and what a book keeps for them.
-use Rattle.std.proofs.Common.{◌≡◌, ℕ, ◌+◌, ◌-◌, ◌<◌, ◌≤◌, ◌⊎◌, inl, inr, sym, ap, ◌∙◌, subst, arith, List, take, length, get_or}
-use Rattle.std.specs.Prelude.{Option, Some, MatchBool, Bool, true, false}
+use Rattle.std.proofs.Common.{◌≡◌, ℕ, ◌+◌, ◌-◌, ◌<◌, ◌≤◌, ◌⊎◌, inl, inr, sym, subst, arith, List, length, get_or}
+use Rattle.std.specs.Prelude.{Option, MatchBool, Bool, true, false}
 use Rattle.std.proofs.lemmas.List.{get_or-take, length-take-le}
 use Rattle.ntfe_model.specs.Shapes.{Shape}
 use Rattle.ntfe_model.specs.Books.{KeepsItem, KeepsAll}
-use Rattle.ntfe_model.specs.Keys.{item_limit, last_number, stem, IsKey}
+use Rattle.ntfe_model.specs.Keys.{item_limit, IsKey}
 use Rattle.ntfe_model.specs.declared.triangulation.Triangulation.{Triangulation}
 
 abbrev Keeps : Type 0

@@ -2,3 +2,4 @@ pub mod Heads
 pub mod Extending
 pub mod Counts
 pub mod KeyLemmas
+pub mod RowLemmas

@@ -1,8 +1,7 @@
-use Rattle.std.proofs.Common.{◌≡◌, ◌<◌, ◌≤◌, ◌∙◌, refl, sym, ap, subst, arith, ℕ, List, length, get_or}
+use Rattle.std.proofs.Common.{◌∙◌, refl, sym, ap, subst, arith, ℕ, List, length, get_or}
 use Rattle.ntfe_model.specs.Shapes.{Shape}
 use Rattle.ntfe_model.specs.Books.{KeepsItem}
 use Rattle.ntfe_model.specs.Words.{HasItem}
-use Rattle.ntfe_model.specs.Keys.{item_limit}
 use Rattle.node_probe.proofs.KeyLemmas.{key_low, kept_both, head_kept, match_true, match_false}
 use Rattle.node_probe.proofs.fetching.fetch_head.Goals as goal
 
