@@ -3,3 +3,4 @@ pub mod Extending
 pub mod Counts
 pub mod KeyLemmas
 pub mod RowLemmas
+pub mod AssemblyLemmas

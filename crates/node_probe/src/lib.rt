@@ -2,5 +2,6 @@
 #![tactic(auto)]
 
 
+mod assembling;
 mod fetching;
 mod head;
