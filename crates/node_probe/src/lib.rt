@@ -4,4 +4,7 @@
 
 mod assembling;
 mod fetching;
+mod finding;
 mod head;
+
+pub use finding::Finding;
