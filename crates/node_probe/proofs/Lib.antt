@@ -4,3 +4,4 @@ pub mod Counts
 pub mod KeyLemmas
 pub mod RowLemmas
 pub mod AssemblyLemmas
+pub mod Refuting
