@@ -5,4 +5,4 @@ pub mod KeyLemmas
 pub mod RowLemmas
 pub mod AssemblyLemmas
 pub mod Refuting
-pub mod Solving
+pub mod Solutions

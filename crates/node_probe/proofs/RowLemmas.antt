@@ -111,3 +111,10 @@ rows_step g key f rs qs last lent faces more n l e el eq em item small h =
     let q2 = eq ∙ ap (λ xs. rs ++ xs) el in
     let q3 = em ∙ (λ t. faces ++ replicate (length (el t)) (sym len t)) in
     subst P (λ t. (sym q1 t, sym q2 t, sym q3 t)) r
+
+-- each row is of a two-face of the head
+pub rows_within : (g : Shape) (key : List ℕ) (rs : List Fold) (faces : List ℕ) → AreHeadRows g key rs faces → All (λ f. f < length key) faces
+rows_within g key rs faces h j d l =
+    let o = (h.owners j (record { a = 0; b = 0; c = 0; d = 0; alpha = pos 0; beta = pos 0 }) (let c = h.count in omega (arith, l, c))).0 in
+    let e : get_or faces j d ≡ get_or faces j 0 = get_or_default faces j d 0 l in
+    omega (arith, o, e)

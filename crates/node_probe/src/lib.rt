@@ -6,5 +6,6 @@ mod assembling;
 mod fetching;
 mod finding;
 mod head;
+mod solving;
 
 pub use finding::Finding;

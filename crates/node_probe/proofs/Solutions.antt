@@ -1,5 +1,5 @@
 -- What the solver's answers on a head's folds say of the key.
-use Rattle.std.proofs.Common.{◌≡◌, ℕ, ◌<◌, ◌≤◌, subst, arith, ℤ, pos, ◌<ℤ◌, ◌≤ℤ◌, List, length, map, get_or}
+use Rattle.std.proofs.Common.{◌≡◌, ℕ, ◌<◌, ◌≤◌, subst, arith, refl, ℤ, pos, ◌<ℤ◌, ◌≤ℤ◌, List, length, map, get_or}
 use Rattle.std.specs.Prelude.{All, slice_get, Some, None}
 use Rattle.std.proofs.lemmas.Int.{ints}
 use Rattle.std.proofs.lemmas.List.Elements.{All-weaker}
@@ -11,6 +11,10 @@ use Rattle.ntfe_model.specs.Keys.{AllItemsExist, last_number, item_limit, IsClas
 use Rattle.ntfe_model.specs.declared.nogood.Fold.{Fold}
 use Rattle.fold_rows.specs.Rows.{IsSmallFold}
 use Rattle.strict_solver.specs.Starts.{IsFoldOver, AreFoldsOver}
+use Rattle.strict_solver.specs.Answers.{Answer}
+use Rattle.strict_solver.specs.Answers.Answer.{unsolved, feasible, infeasible}
+use Rattle.strict_solver.specs.Solving.{AreMultipliers, HasSolved, HasMeaning}
+use Rattle.strict_solver.specs.declared.run.Solved.TheVariants.{Feasible, Infeasible, Wide}
 use Rattle.strict_solver.proofs.Agree.{one_answer}
 use Rattle.strict_solver.proofs.Determined.{infeasible_not_wide}
 use Rattle.node_probe.specs.Heads.{AreHeadRows}
@@ -75,3 +79,29 @@ module _ (g : Shape) (s : IsShape g) (key : List ℕ) (rs : List Fold) (faces : 
       let e = head_folds_fixed g 0 key qs rs folds rows.folds in
       let P : List Fold → Type 0 = λ ts. IsInfeasible (length g.points) (map (fold_row (length g.points)) ts) (Some width) ms in
       infeasible_not_wide (length g.points) (map (fold_row (length g.points)) rs) width ms step number (subst P e k) h
+
+-- ---- an answer, over the points and the folds that it is of
+
+pub solved_infeasible : (columns n width : ℕ) (qs rs : List Fold) (a : Answer) (ms : List (ℕ × ℤ)) → columns ≡ n → qs ≡ rs → a ≡ infeasible ms → HasSolved columns (map (fold_row columns) qs) width Infeasible a
+    → HasMeaning columns qs Infeasible a → IsInfeasible n (map (fold_row n) rs) (Some width) ms × AreMultipliers n (map (fold_row n) rs) ms
+solved_infeasible columns n width qs rs a ms e f m h k =
+    let P : ℕ × List Fold × Answer → Type 0 = λ t. HasSolved t.0 (map (fold_row t.0) t.1) width Infeasible t.2 × HasMeaning t.0 t.1 Infeasible t.2 in
+    subst P (λ i. (e i, f i, m i)) (h, k)
+
+pub solved_feasible : (columns n width : ℕ) (qs rs : List Fold) (a : Answer) (ws : List ℤ) → columns ≡ n → qs ≡ rs → a ≡ feasible ws → HasSolved columns (map (fold_row columns) qs) width Feasible a
+    → HasMeaning columns qs Feasible a → IsFeasible n (map (fold_row n) rs) (Some width) ws × ((length ws ≡ n) × All (λ f. pos 1 ≤ℤ fold_value ws f) rs)
+solved_feasible columns n width qs rs a ws e f m h k =
+    let P : ℕ × List Fold × Answer → Type 0 = λ t. HasSolved t.0 (map (fold_row t.0) t.1) width Feasible t.2 × HasMeaning t.0 t.1 Feasible t.2 in
+    subst P (λ i. (e i, f i, m i)) (h, k)
+
+pub solved_wide : (columns n width : ℕ) (qs rs : List Fold) (a : Answer) (step : ℕ) (number : ℤ) → columns ≡ n → qs ≡ rs → HasSolved columns (map (fold_row columns) qs) width (Wide step number) a
+    → IsWide n (map (fold_row n) rs) width step number
+solved_wide columns n width qs rs a step number e f h =
+    let P : ℕ × List Fold → Type 0 = λ t. IsWide t.0 (map (fold_row t.0) t.1) width step number in
+    subst P (λ i. (e i, f i)) h.0
+
+-- heights that some answer has
+pub has_heights : (columns width : ℕ) (rs : List (List ℤ)) (a : Answer) → HasSolved columns rs width Feasible a → (ws : List ℤ) × (a ≡ feasible ws)
+has_heights columns width rs (feasible ws) h = (ws, refl)
+has_heights columns width rs unsolved h = absurd h
+has_heights columns width rs (infeasible ms) h = absurd h
