@@ -6,6 +6,8 @@ mod assembling;
 mod fetching;
 mod finding;
 mod head;
+mod probing;
 mod solving;
 
 pub use finding::Finding;
+pub use probing::probe;

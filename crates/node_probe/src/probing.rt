@@ -8,7 +8,7 @@ ghost use Rattle.node_probe.specs.Findings.{IsFinding};
 use crate::fetching::fetch_head;
 use crate::finding::Finding;
 use crate::head::head_rows;
-use crate::solving::solve_head;
+use crate::solving::{make_room, solve_head};
 use nogood_set::NogoodSet;
 use ntfe_model::{Book, Geometry, ITEM_LIMIT, Key};
 use std::alloc::{AllocError, Global};
@@ -49,11 +49,12 @@ pub fn probe<B: Book>(
     ensures columns { tableau.new.columns ≡ tableau.old.columns }
     ensures finding { IfOk result (IsFinding geometry.now width key.now set.now) }
 {
-    let numbers = key.0.as_slice();
-    let face = geometry.faces().len().min(numbers.len()) - 1;
+    let columns = geometry.points().len() as u32;
     if !fetch_head(book, key)? {
         return Ok(Finding::End);
     }
+    let numbers = key.0.as_slice();
+    let face = numbers.len() - 1;
     if numbers[face] == ITEM_LIMIT {
         return Ok(Finding::Far { face: face as u32 });
     }
@@ -61,5 +62,6 @@ pub fn probe<B: Book>(
         return Ok(Finding::Blocked(place));
     }
     let rows = head_rows(alloc, geometry, key, book)?;
+    make_room(alloc, tableau, rows.folds.len() as u32, columns)?;
     solve_head(alloc, geometry, key, &rows, tableau, width)
 }

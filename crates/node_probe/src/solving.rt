@@ -13,7 +13,7 @@ use std::alloc::{AllocError, Global};
 use strict_solver::{Solved, Tableau};
 
 /// Takes a larger tableau where the rows are more than this one holds.
-fn make_room(alloc: Global, tableau: &mut Tableau, rows: u32, columns: u32) -> Result<(), AllocError>
+pub fn make_room(alloc: Global, tableau: &mut Tableau, rows: u32, columns: u32) -> Result<(), AllocError>
     requires columns { tableau.old.columns ≡ columns }
     requires few { columns ≤ 400 }
     ensures columns { tableau.new.columns ≡ tableau.old.columns }
@@ -39,18 +39,13 @@ pub fn solve_head(
     requires within { IsWithin geometry.now key.now }
     requires rows { AreHeadRows geometry.now key.now rows.now.folds.items rows.now.faces.items }
     requires columns { tableau.old.columns ≡ length geometry.now.points }
+    requires room { length rows.now.folds.items ≤ tableau.old.rows }
     requires low { 1 ≤ width }
     requires high { width ≤ 62 }
     ensures columns { tableau.new.columns ≡ tableau.old.columns }
     ensures solution { IfOk result (IsSolution geometry.now width key.now) }
 {
     let whole = key.0.as_slice().len() == geometry.faces().len();
-    make_room(
-        alloc,
-        tableau,
-        rows.folds.len() as u32,
-        geometry.points().len() as u32,
-    )?;
     match tableau.solve(rows.folds.as_slice(), width) {
         Solved::Infeasible => {
             let nogood = certificate(alloc, key, rows, tableau.multipliers())?;
