@@ -6,3 +6,4 @@ pub mod RowLemmas
 pub mod AssemblyLemmas
 pub mod Refuting
 pub mod Solutions
+pub mod FindingLemmas
