@@ -34,9 +34,11 @@ terms_of : (rs : List Fold) (ms : List (ℕ × ℤ)) (ts : List Term) → map (�
 terms_of rs [] [] a b = tt
 terms_of rs [] (t ∷ ts) a b = cc
 terms_of rs (e ∷ ms) [] a b = cc
-terms_of rs (e ∷ ms) (t ∷ ts) a b =
-    (cons_first t.times e.1 (map (λ u. u.times) ts) (map (λ f. f.1) ms) a, sym (cons_first (Some t.fold) (slice_get rs e.0) (map (λ u. Some u.fold) ts) (map (λ f. slice_get rs f.0) ms) b),
-    terms_of rs ms ts (cons_rest t.times e.1 (map (λ u. u.times) ts) (map (λ f. f.1) ms) a) (cons_rest (Some t.fold) (slice_get rs e.0) (map (λ u. Some u.fold) ts) (map (λ f. slice_get rs f.0) ms) b))
+terms_of rs (e ∷ ms) (t ∷ ts) a b = (
+  cons_first t.times e.1 (map (λ u. u.times) ts) (map (λ f. f.1) ms) a,
+  sym (cons_first (Some t.fold) (slice_get rs e.0) (map (λ u. Some u.fold) ts) (map (λ f. slice_get rs f.0) ms) b),
+  terms_of rs ms ts (cons_rest t.times e.1 (map (λ u. u.times) ts) (map (λ f. f.1) ms) a) (cons_rest (Some t.fold) (slice_get rs e.0) (map (λ u. Some u.fold) ts) (map (λ f. slice_get rs f.0) ms) b),
+)
 
 some_once : {X : Type 0} (x y : X) → Some x ≡ Some y → x ≡ y
 some_once x y e = cc

@@ -27,7 +27,12 @@ fn add_part(parts: &mut Vec<Part>, part: Part) -> Result<(), AllocError>
 
 /// The certificate of the rows with these multipliers, given by row numbers from 0. Its parts are the
 /// items of the head that have a row among them.
-pub fn certificate(alloc: Global, key: &Key, rows: &HeadRows, multipliers: &[(u32, i64)]) -> Result<Nogood, AllocError>
+pub fn certificate(
+    alloc: Global,
+    key: &Key,
+    rows: &HeadRows,
+    multipliers: &[(u32, i64)],
+) -> Result<Nogood, AllocError>
     requires few { length key.now < 2 ^ 32 }
     requires count { length rows.now.faces.items ≡ length rows.now.folds.items }
     requires within { All (λ f. f < length key.now) rows.now.faces.items }

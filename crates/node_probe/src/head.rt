@@ -17,7 +17,13 @@ pub struct HeadRows {
 }
 
 /// The folds of an item that the book keeps.
-fn item_folds<B: Book>(alloc: Global, geometry: &Geometry, book: &B, face: u32, number: u32) -> Result<List<Fold>, AllocError>
+fn item_folds<B: Book>(
+    alloc: Global,
+    geometry: &Geometry,
+    book: &B,
+    face: u32,
+    number: u32,
+) -> Result<List<Fold>, AllocError>
     requires shape { B.shape book.now ≡ geometry.now }
     requires face { face < length geometry.now.faces }
     requires number { number ≤ item_limit geometry.now }
@@ -43,7 +49,12 @@ fn add_rows(rows: &mut HeadRows, face: u32, folds: &[Fold]) -> Result<(), AllocE
 }
 
 /// The folds of the head's items, which the book keeps.
-pub fn head_rows<B: Book>(alloc: Global, geometry: &Geometry, key: &Key, book: &B) -> Result<HeadRows, AllocError>
+pub fn head_rows<B: Book>(
+    alloc: Global,
+    geometry: &Geometry,
+    key: &Key,
+    book: &B,
+) -> Result<HeadRows, AllocError>
     requires shape { B.shape book.now ≡ geometry.now }
     requires key { IsKey geometry.now key.now }
     requires few { length key.now < 2 ^ 32 }

@@ -1,7 +1,6 @@
 //! What is found at a key: the end of the items, a certificate, a class, or that the key is to be gone into.
 #![tactic(auto)]
 
-
 mod assembling;
 mod fetching;
 mod finding;

@@ -13,7 +13,12 @@ use std::alloc::{AllocError, Global};
 use strict_solver::{Solved, Tableau};
 
 /// Takes a larger tableau where the rows are more than this one holds.
-pub fn make_room(alloc: Global, tableau: &mut Tableau, rows: u32, columns: u32) -> Result<(), AllocError>
+pub fn make_room(
+    alloc: Global,
+    tableau: &mut Tableau,
+    rows: u32,
+    columns: u32,
+) -> Result<(), AllocError>
     requires columns { tableau.old.columns ≡ columns }
     requires few { columns ≤ 400 }
     ensures columns { tableau.new.columns ≡ tableau.old.columns }

@@ -39,8 +39,7 @@ pub returns-then-not-branch-clause-answer : goal.returns-then-not-branch-clause-
 returns-then-not-branch-clause-answer g c =
     let e = c.as_slice-numbers.ensures ∙ c.key.view_is in
     let none = match_false _ _ c.in_ok-has_item.field-0 c.in_ok-has_item.ensures.answer c.if-not-branch.true in
-    let P : Shape × ℕ → Type 0 = λ t. HasItem t.0 c.loop-face.face t.1 in
-    (
+    let P : Shape × ℕ → Type 0 = λ t. HasItem t.0 c.loop-face.face t.1 in (
       c.loop-face.face,
       (let m = ap length e in let l = c.loop-face-test.true in omega (arith, m, l)),
       (λ h. none (subst P (λ i. (sym c.loop-face.invariant.0 i, get_or (sym e i) c.loop-face.face 0)) h)),
@@ -53,8 +52,7 @@ loop-face-preserved g c =
     let e = c.as_slice-numbers.ensures ∙ c.key.view_is in
     let new = match_true _ _ c.in_ok-has_item.field-0 c.in_ok-has_item.ensures.answer c.if-not-branch.false in
     let P : ℕ → Type 0 = λ n. KeepsItem after c.loop-face.face n in
-    let Q : Shape × ℕ → Type 0 = λ t. HasItem t.0 c.loop-face.face t.1 in
-    (
+    let Q : Shape × ℕ → Type 0 = λ t. HasItem t.0 c.loop-face.face t.1 in (
       c.has_item.ensures.shape ∙ c.loop-face.invariant.0,
       kept_both (g.B.Book.keeps c.args.book.now) before after c.loop-face.invariant.1 c.has_item.ensures.kept,
       head_kept before after c.args.key.now c.loop-face.face c.has_item.ensures.kept c.loop-face.invariant.2 (subst P (ap (λ (ks : List ℕ). get_or ks c.loop-face.face 0) e) new.0),

@@ -25,8 +25,7 @@ returns-then-numbers-face-eq-ITEM_LIMIT-clause-finding g c =
     let found = match_true _ _ c.in_ok-fetch_head.field-0 c.in_ok-fetch_head.ensures.answer c.if-not-branch.false in
     let P : Shape → Type 0 = λ h. AllItemsExist h c.args.key.now in
     let n = ap length e in
-    let s = c.requires.key.some in
-    (
+    let s = c.requires.key.some in (
       (ap (λ (ks : List ℕ). get_or ks (length ks - 1) 0) (sym e) ∙ c.if-numbers-face-eq-ITEM_LIMIT.true, subst P c.requires.shape found.1),
       (let r : length c.args.key.now ≡ length c.as_slice-numbers.result.now - 1 + 1 = omega (arith, n, s) in r),
     )

@@ -61,15 +61,13 @@ returns-in_default-clause-solution c =
     let columns = c.requires.columns in
     elim c.in_default.branch [
       | in_default-via-in-Wide+else-whole w ↦
-          let h = solved_wide c.args.tableau.now.columns (length g.points) c.args.width c.as_slice-2.result.now rs c.solve.new.self.answer _ _ columns c.as_slice-2.ensures.value w.in-Wide.ensures.answer in
-          (
+          let h = solved_wide c.args.tableau.now.columns (length g.points) c.args.width c.as_slice-2.result.now rs c.solve.new.self.answer _ _ columns c.as_slice-2.ensures.value w.in-Wide.ensures.answer in (
             (below (length c.as_slice.result.now) (length c.faces.result.now) (length key) (length g.faces) e f l w.if-whole.false, c.requires.within.1),
             not_refuted_wide g c.requires.shape key rs c.args.rows.now.faces.items c.requires.rows c.args.width _ _ h,
           )
       | in_default-via-in-Feasible+else-whole-2 w ↦
           let ws = has_heights c.args.tableau.now.columns c.args.width (map (fold_row c.args.tableau.now.columns) c.as_slice-2.result.now) c.solve.new.self.answer w.in-Feasible.ensures.answer in
-          let h = solved_feasible c.args.tableau.now.columns (length g.points) c.args.width c.as_slice-2.result.now rs c.solve.new.self.answer ws.0 columns c.as_slice-2.ensures.value ws.1 w.in-Feasible.ensures.answer w.in-Feasible.ensures.meaning in
-          (
+          let h = solved_feasible c.args.tableau.now.columns (length g.points) c.args.width c.as_slice-2.result.now rs c.solve.new.self.answer ws.0 columns c.as_slice-2.ensures.value ws.1 w.in-Feasible.ensures.answer w.in-Feasible.ensures.meaning in (
             (below (length c.as_slice.result.now) (length c.faces.result.now) (length key) (length g.faces) e f l w.if-whole-2.false, c.requires.within.1),
             not_refuted g c.requires.shape key rs c.args.rows.now.faces.items c.requires.rows c.args.width ws.0 h.0,
           )
