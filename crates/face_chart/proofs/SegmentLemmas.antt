@@ -1,13 +1,13 @@
 -- When a point lies on a segment.
 use Rattle.std.proofs.Common.{◌≡◌, ◌≢◌, ℕ, zero, suc, ◌+◌, ◌-◌, ◌*◌, ◌<◌, ◌≤◌, refl, sym, ap, ◌∙◌, subst, arith, ℤ, pos, negsuc, ◌+ℤ◌, ◌-ℤ◌, ◌*ℤ◌, ◌<ℤ◌, ◌≤ℤ◌, [], ◌∷◌, get_or, unsigned_abs}
 use Rattle.std.proofs.lemmas.Int.{ints}
-use Rattle.ntfe_nums.specs.Vectors.{Vector, numbers, vector_sum, difference, multiple, dot}
+use Rattle.ntfe_nums.specs.Vectors.{Vector, numbers, origin, vector_sum, difference, multiple, dot}
 use Rattle.ntfe_nums.proofs.Ring.{ring}
 use Rattle.ntfe_nums.proofs.Ring.Expression.{var, plus, minus, times}
 use Rattle.ntfe_model.specs.Charts.{IsOnSegment}
 use Rattle.ntfe_model.proofs.PlaneNumbers.{cancel, negative_product}
 
--- ---- the square of a difference
+-- ---- the square of a vector
 
 square : (z : ℤ) → z *ℤ z ≡ pos (unsigned_abs z * unsigned_abs z)
 square (pos n) = refl
@@ -17,47 +17,56 @@ no_square : (k : ℕ) (r : ℕ) → k * k + r ≡ 0 → k ≡ 0
 no_square zero r e = refl
 no_square (suc k) r e = absurd (omega arith)
 
-no_difference : (a b : ℤ) → unsigned_abs (b -ℤ a) ≡ 0 → a ≡ b
+no_difference : (a b : ℤ) → b -ℤ a ≡ pos 0 → a ≡ b
 no_difference a b e = omega (arith, ints, e)
 
-module _ (a b : Vector) where
-  sum_of : ℕ
-  sum_of =
-      unsigned_abs (b.x1 -ℤ a.x1) * unsigned_abs (b.x1 -ℤ a.x1) + unsigned_abs (b.x2 -ℤ a.x2) * unsigned_abs (b.x2 -ℤ a.x2) + unsigned_abs (b.x3 -ℤ a.x3) * unsigned_abs (b.x3 -ℤ a.x3)
-      + unsigned_abs (b.x4 -ℤ a.x4) * unsigned_abs (b.x4 -ℤ a.x4)
+pub total : Vector → ℕ
+total v = unsigned_abs v.x1 * unsigned_abs v.x1 + unsigned_abs v.x2 * unsigned_abs v.x2 + unsigned_abs v.x3 * unsigned_abs v.x3 + unsigned_abs v.x4 * unsigned_abs v.x4
 
-  square_is : dot (difference b a) (difference b a) ≡ pos sum_of
-  unfolding sum_of
-  square_is = λ i. square (b.x1 -ℤ a.x1) i +ℤ square (b.x2 -ℤ a.x2) i +ℤ square (b.x3 -ℤ a.x3) i +ℤ square (b.x4 -ℤ a.x4) i
+pub square_is : (v : Vector) → dot v v ≡ pos (total v)
+unfolding total
+square_is v = λ i. square v.x1 i +ℤ square v.x2 i +ℤ square v.x3 i +ℤ square v.x4 i
 
-  apart_sum : a ≢ b → sum_of ≢ 0
-  unfolding sum_of
-  apart_sum ne e =
-      let k = unsigned_abs (b.x1 -ℤ a.x1) in
-      let l = unsigned_abs (b.x2 -ℤ a.x2) in
-      let m = unsigned_abs (b.x3 -ℤ a.x3) in
-      let n = unsigned_abs (b.x4 -ℤ a.x4) in
-      let e1 = no_difference a.x1 b.x1 (first k l m n e) in
-      let e2 = no_difference a.x2 b.x2 (second k l m n e) in
-      let e3 = no_difference a.x3 b.x3 (third k l m n e) in
-      let e4 = no_difference a.x4 b.x4 (fourth k l m n e) in
-      ne (λ i. record { x1 = e1 i; x2 = e2 i; x3 = e3 i; x4 = e4 i })
-    where
-      first : (k l m n : ℕ) → k * k + l * l + m * m + n * n ≡ 0 → k ≡ 0
-      first k l m n q = no_square k (l * l + m * m + n * n) (omega (arith, q))
+pub total_none : (v : Vector) → total v ≡ 0 → v ≡ origin
+unfolding total
+total_none v e =
+    let k = unsigned_abs v.x1 in
+    let l = unsigned_abs v.x2 in
+    let m = unsigned_abs v.x3 in
+    let n = unsigned_abs v.x4 in
+    let e1 = none v.x1 (first k l m n e) in
+    let e2 = none v.x2 (second k l m n e) in
+    let e3 = none v.x3 (third k l m n e) in
+    let e4 = none v.x4 (fourth k l m n e) in
+    λ i. record { x1 = e1 i; x2 = e2 i; x3 = e3 i; x4 = e4 i }
+  where
+    none : (z : ℤ) → unsigned_abs z ≡ 0 → z ≡ pos 0
+    none z p = omega (arith, ints, p)
 
-      second : (k l m n : ℕ) → k * k + l * l + m * m + n * n ≡ 0 → l ≡ 0
-      second k l m n q = no_square l (k * k + m * m + n * n) (omega (arith, q))
+    first : (k l m n : ℕ) → k * k + l * l + m * m + n * n ≡ 0 → k ≡ 0
+    first k l m n q = no_square k (l * l + m * m + n * n) (omega (arith, q))
 
-      third : (k l m n : ℕ) → k * k + l * l + m * m + n * n ≡ 0 → m ≡ 0
-      third k l m n q = no_square m (k * k + l * l + n * n) (omega (arith, q))
+    second : (k l m n : ℕ) → k * k + l * l + m * m + n * n ≡ 0 → l ≡ 0
+    second k l m n q = no_square l (k * k + m * m + n * n) (omega (arith, q))
 
-      fourth : (k l m n : ℕ) → k * k + l * l + m * m + n * n ≡ 0 → n ≡ 0
-      fourth k l m n q = no_square n (k * k + l * l + m * m) (omega (arith, q))
+    third : (k l m n : ℕ) → k * k + l * l + m * m + n * n ≡ 0 → m ≡ 0
+    third k l m n q = no_square m (k * k + l * l + n * n) (omega (arith, q))
+
+    fourth : (k l m n : ℕ) → k * k + l * l + m * m + n * n ≡ 0 → n ≡ 0
+    fourth k l m n q = no_square n (k * k + l * l + m * m) (omega (arith, q))
+
+pub apart_total : (a b : Vector) → a ≢ b → total (difference b a) ≢ 0
+apart_total a b ne e =
+    let z = total_none (difference b a) e in
+    let e1 = no_difference a.x1 b.x1 (ap (λ v. v.x1) z) in
+    let e2 = no_difference a.x2 b.x2 (ap (λ v. v.x2) z) in
+    let e3 = no_difference a.x3 b.x3 (ap (λ v. v.x3) z) in
+    let e4 = no_difference a.x4 b.x4 (ap (λ v. v.x4) z) in
+    ne (λ i. record { x1 = e1 i; x2 = e2 i; x3 = e3 i; x4 = e4 i })
 
 -- ---- one coordinate
 
-mix_number : (n s a b x : ℤ) → n *ℤ (x -ℤ a) ≡ s *ℤ (b -ℤ a) → n *ℤ x ≡ (n -ℤ s) *ℤ a +ℤ s *ℤ b
+pub mix_number : (n s a b x : ℤ) → n *ℤ (x -ℤ a) ≡ s *ℤ (b -ℤ a) → n *ℤ x ≡ (n -ℤ s) *ℤ a +ℤ s *ℤ b
 mix_number n s a b x e =
     ring (n ∷ x ∷ a ∷ []) (times (var 0) (var 1)) (plus (times (var 0) (minus (var 1) (var 2))) (times (var 0) (var 2))) refl
     ∙ ap (λ z. z +ℤ n *ℤ a) e
@@ -129,7 +138,7 @@ module _ (a b x : Vector) (N S : ℤ) (eN : N ≡ dot (difference b a) (differen
       record {
         n = unsigned_abs N;
         s = unsigned_abs S;
-        range = (positive N (sum_of a b) (eN ∙ square_is a b) (apart_sum a b ne), omega (arith, ints, h, k));
+        range = (positive N (total (difference b a)) (eN ∙ square_is (difference b a)) (apart_total a b ne), omega (arith, ints, h, k));
         mix = subst (λ (t : ℤ × ℤ). multiple t.0 x ≡ vector_sum (multiple (t.0 -ℤ t.1) a) (multiple t.1 b)) (λ i. (sym nN i, sym sS i)) mNS;
       }
     where
@@ -152,17 +161,17 @@ module _ (a b x : Vector) (N S : ℤ) (eN : N ≡ dot (difference b a) (differen
     ratio : pos o.n *ℤ S ≡ pos o.s *ℤ N
     ratio = ap (λ z. pos o.n *ℤ z) eS ∙ scaled (pos o.n) (pos o.s) (difference b a) (difference x a) at1 at2 at3 at4 ∙ ap (λ z. pos o.s *ℤ z) (sym eN)
 
-    ratio_square : pos o.n *ℤ S ≡ pos o.s *ℤ pos (sum_of a b)
-    ratio_square = ratio ∙ ap (λ z. pos o.s *ℤ z) (eN ∙ square_is a b)
+    ratio_square : pos o.n *ℤ S ≡ pos o.s *ℤ pos (total (difference b a))
+    ratio_square = ratio ∙ ap (λ z. pos o.s *ℤ z) (eN ∙ square_is (difference b a))
 
     positive_n : pos 0 <ℤ pos o.n
     positive_n = let r = o.range.0 in omega (arith, ints, r)
 
     pub share_low : S <ℤ pos 0 → ⊥
-    share_low l = not_negative o.n o.s (sum_of a b) S o.range.0 ratio_square l
+    share_low l = not_negative o.n o.s (total (difference b a)) S o.range.0 ratio_square l
 
     pub share_high : N <ℤ S → ⊥
-    share_high l = not_above o.n o.s (sum_of a b) S o.range.0 o.range.1 ratio_square (let P : ℤ → Type 0 = λ z. z <ℤ S in subst P (eN ∙ square_is a b) l)
+    share_high l = not_above o.n o.s (total (difference b a)) S o.range.0 o.range.1 ratio_square (let P : ℤ → Type 0 = λ z. z <ℤ S in subst P (eN ∙ square_is (difference b a)) l)
 
     pub share_at : (k : ℕ) → k < 4 → N *ℤ get_or (numbers (difference x a)) k (pos 0) ≡ S *ℤ get_or (numbers (difference b a)) k (pos 0)
     share_at zero l = other_share (pos o.n) (pos o.s) N S (b.x1 -ℤ a.x1) (x.x1 -ℤ a.x1) positive_n ratio at1

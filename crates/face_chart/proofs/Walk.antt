@@ -22,7 +22,7 @@ both_true false q e = cc
 pub same_number : (x y : ℕ) → (x == y) ≡ true → x ≡ y
 same_number x y e = grind (arith, nat_tests)
 
-number_same : (x y : ℕ) → x ≡ y → (x == y) ≡ true
+pub number_same : (x y : ℕ) → x ≡ y → (x == y) ≡ true
 number_same x y e = grind (arith, nat_tests)
 
 pub same_step_is : (e f : ℕ × ℕ) → is_same_step e f ≡ true → e ≡ f

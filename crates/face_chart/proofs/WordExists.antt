@@ -2,7 +2,7 @@
 --     walk_exists      from any point of a walk within the set, the walk goes on to its end
 --     word_from_steps      each fine set has a word, given its boundary steps (FineSets has them)
 --     triangulation_apart, triangulation_sides      a triangulation gives no triple and no directed side twice
-use Rattle.std.proofs.Common.{◌≡◌, ◌≢◌, ℕ, zero, suc, ◌+◌, ◌<◌, ◌≤◌, ◌⊎◌, inl, inr, ⊎_elim, Bool, true, false, cond, refl, sym, ap, ◌∙◌, subst, arith, List, [], ◌∷◌}
+use Rattle.std.proofs.Common.{◌≡◌, ◌≢◌, ℕ, zero, suc, ◌+◌, ◌<◌, ◌≤◌, ◌⊎◌, inl, inr, ⊎_elim, Bool, true, false, cond, refl, sym, ap, ◌∙◌, subst, arith, List, [], ◌∷◌, length}
 use Rattle.std.specs.Prelude.{Contains, filter, not, ◌&&◌, ◌||◌, ◌==◌, nat_lt, AllPairs}
 use Rattle.std.specs.List.{list_any}
 use Rattle.std.proofs.lemmas.Bool.Decides.{nat_tests}
@@ -104,7 +104,7 @@ pub record IsUnderWay (us rs : List Triangle) (fs : List (ℕ × ℕ)) : Type 0 
   pub distinct : AreDistinct fs
   pub within : (t : Triangle) → Contains rs t → IsTripleOf us t
 
-written_same : (u : Triangle) (a b c : ℕ) → IsRotationOf u a b c → IsSameTriple u (written a b c)
+pub written_same : (u : Triangle) (a b c : ℕ) → IsRotationOf u a b c → IsSameTriple u (written a b c)
 written_same u a b c k = first (nat_lt a b && nat_lt a c)
   where
     second : (q : Bool) → IsSameTriple u (cond q (record { a = b; b = c; c = a }) (record { a = c; b = a; c = b }))
@@ -253,7 +253,7 @@ count_falls t rs (u ∷ us) =
     sums : (a b c d : ℕ) → a ≤ b → c ≤ d → a + c ≤ b + d
     sums a b c d p q = omega (arith, p, q)
 
-count_lost : (t : Triangle) (rs us : List Triangle) (u : Triangle) → Contains us u → ¬ (IsTripleOf rs u) → IsSameTriple t u → left_count (t ∷ rs) us < left_count rs us
+pub count_lost : (t : Triangle) (rs us : List Triangle) (u : Triangle) → Contains us u → ¬ (IsTripleOf rs u) → IsSameTriple t u → left_count (t ∷ rs) us < left_count rs us
 count_lost t rs [] u k n s = Contains-none u k
 count_lost t rs (v ∷ us) u k n s = by (Contains-cases u v us k) (λ l. count_lost t rs us u l n s)
   where
@@ -268,6 +268,18 @@ count_lost t rs (v ∷ us) u k n s = by (Contains-cases u v us k) (λ l. count_l
         let P : Triangle → Type 0 = λ z. IsTripleOf (t ∷ rs) z in let Q : Triangle → Type 0 = λ z. ¬ (IsTripleOf rs z) in
         first _ _ _ _ (weight_lost (decide_triple_of (t ∷ rs) v) (decide_triple_of rs v) (subst P e (t, Contains-here t t rs refl, s)) (subst Q e n)) (count_falls t rs us)
     by (inr l) go = later _ _ _ _ (weight_falls (decide_triple_of (t ∷ rs) v) (decide_triple_of rs v) (triple_behind t rs v)) (go l)
+
+-- no more are left than there are
+pub left_few : (rs us : List Triangle) → left_count rs us ≤ length us
+left_few rs [] = omega arith
+left_few rs (u ∷ us) = sums _ _ (one (decide_triple_of rs u)) (left_few rs us)
+  where
+    one : {A : Type 0} (d : Decided A) → weight d ≤ 1
+    one (inl a) = omega arith
+    one (inr n) = omega arith
+
+    sums : (a b : ℕ) → a ≤ 1 → b ≤ length us → a + b ≤ suc (length us)
+    sums a b p q = omega (arith, p, q)
 
 in_front : (us : List Triangle) (s : Triangle) (ts : List Triangle) → IsTripleOf us s → ((t : Triangle) → Contains ts t → IsTripleOf us t)
     → (t : Triangle) → Contains (s ∷ ts) t → IsTripleOf us t

@@ -12,3 +12,5 @@ mod units;
 
 pub use charts::Chart;
 pub use made::chart;
+pub use segment::{difference, is_on_segment, product};
+pub use table::is_same_place;

@@ -16,8 +16,8 @@ pub struct Share {
     pub s: i64,
 }
 
-/// The difference of two places.
-fn difference(b: &Vec4, a: &Vec4) -> [i64; 4]
+/// The difference of two places. Takes no memory.
+pub fn difference(b: &Vec4, a: &Vec4) -> [i64; 4]
     requires first { IsSmall b.now }
     requires second { IsSmall a.now }
     ensures value { result ≡ numbers (vector_difference b.now a.now) }
@@ -28,8 +28,8 @@ fn difference(b: &Vec4, a: &Vec4) -> [i64; 4]
     [b[0] - a[0], b[1] - a[1], b[2] - a[2], b[3] - a[3]]
 }
 
-/// The scalar product of two differences.
-fn product(d: &[i64; 4], e: &[i64; 4]) -> i64
+/// The scalar product of two differences. Takes no memory.
+pub fn product(d: &[i64; 4], e: &[i64; 4]) -> i64
     requires first { AreWithin 2046 d.now }
     requires second { AreWithin 2046 e.now }
     ensures value { result ≡ dot (vector d.now) (vector e.now) }
@@ -51,7 +51,7 @@ fn is_share_at(share: &Share, e: &[i64; 4], d: &[i64; 4], i: usize) -> bool
 }
 
 /// Whether x lies on the segment from a to another place b. With d = b - a and e = x - a, the share
-/// can be no other than d e of d d.
+/// can be no other than d e of d d. Takes no memory.
 pub fn is_on_segment(a: &Vec4, b: &Vec4, x: &Vec4) -> bool
     requires a { IsSmall a.now }
     requires b { IsSmall b.now }

@@ -19,8 +19,8 @@ fn are_same_numbers(a: &[u32], b: &[u32]) -> bool
     a == b
 }
 
-/// Whether two places are equal.
-fn is_same_place(a: &Vec4, b: &Vec4) -> bool
+/// Whether two places are equal. Takes no memory.
+pub fn is_same_place(a: &Vec4, b: &Vec4) -> bool
     ensures when_true { result ≡ true → a.now ≡ b.now }
     ensures when_false { result ≡ false → a.now ≢ b.now }
 {

@@ -1,17 +1,18 @@
--- A word fixes its triangulation, and a number its item.
-use Rattle.std.proofs.Common.{◌≡◌, ℕ, suc, ◌<◌, ◌≤◌, ◌⊎◌, inl, inr, Bool, true, false, cond, refl, sym, ap, ◌∙◌, subst, arith, List, [], ◌∷◌, length}
-use Rattle.std.specs.Prelude.{Contains, filter}
+-- A word fixes its triangulation, and a number its item; the numbers of the items have no gaps.
+use Rattle.std.proofs.Common.{get_or, ⊎_elim, take, ◌≡◌, ℕ, suc, ◌<◌, ◌≤◌, ◌⊎◌, inl, inr, Bool, true, false, cond, refl, sym, ap, ◌∙◌, subst, arith, List, [], ◌∷◌, length}
+use Rattle.std.specs.Prelude.{Contains, filter, All, AllPairs}
+use Rattle.std.proofs.lemmas.List.{get_or-take, length-take-le, get_or_default}
 use Rattle.std.specs.Ordering.{nat_cmp, is_lt}
 use Rattle.std.specs.declared.cmp.Ordering.{Ordering}
 use Rattle.std.specs.declared.cmp.Ordering.TheVariants.{Less, Equal, Greater}
 use Rattle.std.specs.Cmp.Lexicographic.{slice_cmp, nat_list_cmp_total}
 use Rattle.ntfe_model.specs.Lists.{IsBelow, IsBefore2}
 use Rattle.ntfe_model.specs.Charts.{Patch, IsStep, AreSteps}
-use Rattle.ntfe_model.specs.Words.{Closes, after_side, IsTriangulation, IsItem}
+use Rattle.ntfe_model.specs.Words.{Closes, after_side, IsTriangulation, IsItem, HasItemAt}
 use Rattle.ntfe_model.specs.declared.triangle.Triangle.{Triangle}
 use Rattle.ntfe_model.specs.declared.triangulation.Triangulation.{Triangulation}
 use Rattle.ntfe_model.proofs.Listings.{Contains-cases, Contains-none, listing_filter, listing_unique}
-use Rattle.ntfe_model.proofs.Orders.{below_once, three_ways}
+use Rattle.ntfe_model.proofs.Orders.{below_once, below_chain, three_ways}
 
 -- ---- a word fixes its triangulation
 
@@ -115,3 +116,67 @@ item_fixed h n x y p q = by (three_ways x.word y.word)
     by (inl l) = absurd (let k = number_rises h n n x y p q l in omega arith)
     by (inr (inl e)) = word_fixes h x y p.is q.is e
     by (inr (inr l)) = absurd (let k = number_rises h n n y x q p l in omega arith)
+
+-- ---- the numbers have no gaps
+
+-- the lesser items of an item are the items with the lesser numbers
+pub lesser_item : (h : Patch) (m n : ℕ) (x : Triangulation) → IsItem h m x → n < m → HasItemAt h n
+lesser_item h m n x p less = (y, record { is = (below n inside).0; lesser = take n ys; listing = record { ordered = ordered; sound = sound; complete = complete }; count = count })
+  where
+    ys : List Triangulation
+    ys = p.lesser
+
+    inside : n < length p.lesser
+    inside = let e = p.count in omega arith
+
+    y : Triangulation
+    y = get_or p.lesser n x
+
+    below : (k : ℕ) → k < length p.lesser → IsTriangulation h (get_or p.lesser k x) × IsBelow (get_or p.lesser k x).word x.word
+    below k l = p.listing.sound k x l
+
+    count : length (take n p.lesser) ≡ n
+    count = length-take-le n p.lesser (omega arith)
+
+    taken : (i : ℕ) (d : Triangulation) → i < length (take n p.lesser) → get_or (take n p.lesser) i d ≡ get_or p.lesser i d
+    taken i d l = get_or-take n p.lesser i d (omega (arith, count))
+
+    ordered : AllPairs (λ v w. IsBelow v.word w.word) (take n p.lesser)
+    ordered i j d k l =
+        let P : Triangulation × Triangulation → Type 0 = λ v. IsBelow v.0.word v.1.word in
+        subst P (λ t. (sym (taken i d (omega arith)) t, sym (taken j d l) t)) (p.listing.ordered i j d k (omega (arith, count)))
+
+    below_y : (k : ℕ) (d : Triangulation) → k < n → IsBelow (get_or p.lesser k d).word y.word
+    below_y k d l =
+        let P : Triangulation → Type 0 = λ w. IsBelow (get_or p.lesser k d).word w.word in
+        subst P (get_or_default p.lesser n d x inside) (p.listing.ordered k n d l inside)
+
+    sound : All (λ z. IsTriangulation h z × IsBelow z.word y.word) (take n p.lesser)
+    sound k d l =
+        let early : k < n = omega (arith, count) in
+        let P : Triangulation → Type 0 = λ z. IsTriangulation h z × IsBelow z.word y.word in
+        subst P (sym (get_or-take n p.lesser k d early)) ((p.listing.sound k d (omega arith)).0, below_y k d early)
+
+    complete : (z : Triangulation) → IsTriangulation h z × IsBelow z.word y.word → Contains (take n p.lesser) z
+    complete z q = by (p.listing.complete z (q.0, below_chain z.word y.word x.word q.1 (below n inside).1))
+      where
+        by : Contains p.lesser z → Contains (take n p.lesser) z
+        by (k, l, e) = ⊎_elim (λ early. (k, omega (arith, count), get_or-take n p.lesser k z early ∙ e)) (λ late. absurd (never late)) (let d : (k < n) ⊎ (n ≤ k) = grind arith in d)
+          where
+            same : IsBelow y.word z.word → ⊥
+            same up = below_once y.word z.word up q.1
+
+            never : n ≤ k → ⊥
+            never late =
+                ⊎_elim
+                (λ same_place. (let P : Triangulation → Type 0 = λ w. IsBelow z.word w.word in
+                let itself = subst P (get_or_default p.lesser n x z inside ∙ ap (λ i. get_or p.lesser i z) (sym same_place) ∙ e) q.1 in
+                below_once z.word z.word itself itself))
+                (λ later. (let P : Triangulation → Type 0 = λ w. IsBelow w.word z.word in
+                let Q : Triangulation → Type 0 = λ w. IsBelow (get_or p.lesser n z).word w.word in
+                same (subst P (get_or_default p.lesser n z x inside) (subst Q e (p.listing.ordered n k z later l)))))
+                (let d : (k ≡ n) ⊎ (n < k) = grind arith in d)
+
+pub lesser_items : (h : Patch) (m n : ℕ) → HasItemAt h m → n ≤ m → HasItemAt h n
+lesser_items h m n p less =
+    ⊎_elim (λ e. (let P : ℕ → Type 0 = HasItemAt h in subst P e p)) (λ l. lesser_item h m n p.0 p.1 l) (let d : (m ≡ n) ⊎ (n < m) = grind arith in d)
