@@ -1,0 +1,12 @@
+//! What is found at a key: the end of the items, a certificate, a class, or that the key is to be gone into.
+#![tactic(auto)]
+
+mod assembling;
+mod fetching;
+mod finding;
+mod head;
+mod probing;
+mod solving;
+
+pub use finding::Finding;
+pub use probing::probe;

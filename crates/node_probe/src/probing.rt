@@ -1,0 +1,67 @@
+//! The probe of a key.
+ghost use Rattle.std.specs.Prelude.{◌≡◌, ◌≤◌, length, All, IfOk};
+ghost use Rattle.ntfe_model.specs.Books.{KeepsAll};
+ghost use Rattle.ntfe_model.specs.Certificates.{IsCertificate};
+ghost use Rattle.ntfe_model.specs.Keys.{IsKey};
+ghost use Rattle.node_probe.specs.Findings.{IsFinding};
+
+use crate::fetching::fetch_head;
+use crate::finding::Finding;
+use crate::head::head_rows;
+use crate::solving::{make_room, solve_head};
+use nogood_set::NogoodSet;
+use ntfe_model::{Book, Geometry, ITEM_LIMIT, Key};
+use std::alloc::{AllocError, Global};
+use strict_solver::Tableau;
+
+/// What is found at a key of the geometry: the first that holds of
+///
+/// - an item of the head does not exist;
+/// - the last item is out of reach;
+/// - a certificate of the set blocks the key;
+/// - the head's folds, the rows of the solver, cancel: then a certificate that blocks the key;
+/// - the key is a choice: then the heights that extend it, or where the solver's numbers, below
+///   2^width in size, were too wide;
+/// - a two-face is left.
+///
+/// The items that were looked for are kept in the book, which loses none. Where the head has more
+/// folds than the tableau has rows, a larger one takes its place.
+///
+/// # Errors
+/// `AllocError` where memory is short.
+pub fn probe<B: Book>(
+    alloc: Global,
+    geometry: &Geometry,
+    key: &Key,
+    book: &mut B,
+    set: &NogoodSet,
+    tableau: &mut Tableau,
+    width: u8,
+) -> Result<Finding, AllocError>
+    requires key { IsKey geometry.now key.now }
+    requires shape { B.shape book.old ≡ geometry.now }
+    requires set { All (IsCertificate geometry.now) set.now }
+    requires columns { tableau.old.columns ≡ length geometry.now.points }
+    requires low { 1 ≤ width }
+    requires high { width ≤ 62 }
+    ensures shape { B.shape book.new ≡ B.shape book.old }
+    ensures kept { KeepsAll (B.keeps book.old) (B.keeps book.new) }
+    ensures columns { tableau.new.columns ≡ tableau.old.columns }
+    ensures finding { IfOk result (IsFinding geometry.now width key.now set.now) }
+{
+    let columns = geometry.points().len() as u32;
+    if !fetch_head(book, key)? {
+        return Ok(Finding::End);
+    }
+    let numbers = key.0.as_slice();
+    let face = numbers.len() - 1;
+    if numbers[face] == ITEM_LIMIT {
+        return Ok(Finding::Far { face: face as u32 });
+    }
+    if let Some(place) = set.blocks(key) {
+        return Ok(Finding::Blocked(place));
+    }
+    let rows = head_rows(alloc, geometry, key, book)?;
+    make_room(alloc, tableau, rows.folds.len() as u32, columns)?;
+    solve_head(alloc, geometry, key, &rows, tableau, width)
+}

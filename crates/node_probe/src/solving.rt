@@ -1,0 +1,66 @@
+//! The solver on the folds of a head.
+ghost use Rattle.std.specs.Prelude.{◌≡◌, ◌<◌, ◌≤◌, length, IfOk, OnOk};
+ghost use Rattle.ntfe_model.specs.Shapes.{IsShape};
+ghost use Rattle.ntfe_model.specs.Keys.{IsKey};
+ghost use Rattle.node_probe.specs.Heads.{AreHeadRows};
+ghost use Rattle.node_probe.specs.Findings.{IsWithin, IsSolution};
+
+use crate::assembling::certificate;
+use crate::finding::Finding;
+use crate::head::HeadRows;
+use ntfe_model::{Geometry, Heights, Key, List};
+use std::alloc::{AllocError, Global};
+use strict_solver::{Solved, Tableau};
+
+/// Takes a larger tableau where the rows are more than this one holds.
+pub fn make_room(
+    alloc: Global,
+    tableau: &mut Tableau,
+    rows: u32,
+    columns: u32,
+) -> Result<(), AllocError>
+    requires columns { tableau.old.columns ≡ columns }
+    requires few { columns ≤ 400 }
+    ensures columns { tableau.new.columns ≡ tableau.old.columns }
+    ensures rows { OnOk result (rows ≤ tableau.new.rows) }
+{
+    if tableau.rows() < rows {
+        *tableau = Tableau::reserve(alloc, rows, columns)?;
+    }
+    Ok(())
+}
+
+/// What the solver finds on the folds of a head.
+pub fn solve_head(
+    alloc: Global,
+    geometry: &Geometry,
+    key: &Key,
+    rows: &HeadRows,
+    tableau: &mut Tableau,
+    width: u8,
+) -> Result<Finding, AllocError>
+    requires shape { IsShape geometry.now }
+    requires key { IsKey geometry.now key.now }
+    requires within { IsWithin geometry.now key.now }
+    requires rows { AreHeadRows geometry.now key.now rows.now.folds.items rows.now.faces.items }
+    requires columns { tableau.old.columns ≡ length geometry.now.points }
+    requires room { length rows.now.folds.items ≤ tableau.old.rows }
+    requires low { 1 ≤ width }
+    requires high { width ≤ 62 }
+    ensures columns { tableau.new.columns ≡ tableau.old.columns }
+    ensures solution { IfOk result (IsSolution geometry.now width key.now) }
+{
+    let whole = key.0.as_slice().len() == geometry.faces().len();
+    match tableau.solve(rows.folds.as_slice(), width) {
+        Solved::Infeasible => {
+            let nogood = certificate(alloc, key, rows, tableau.multipliers())?;
+            Ok(Finding::Refuted(nogood))
+        }
+        Solved::Wide { step, number } if whole => Ok(Finding::Wide { step, number }),
+        Solved::Feasible if whole => {
+            let heights = Vec::from_slice(alloc, tableau.heights())?;
+            Ok(Finding::Class(Heights(List::from_vec(heights))))
+        }
+        _ => Ok(Finding::Descend),
+    }
+}
