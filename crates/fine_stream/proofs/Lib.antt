@@ -1,2 +1,5 @@
 pub mod Crosses
 pub mod Parts
+pub mod Bound
+pub mod Searches
+pub mod Finding

@@ -16,10 +16,10 @@ abbrev pub BeginsAfter : Option ℕ → List ℕ → Type 0
 BeginsAfter limit [] = ⊤
 BeginsAfter limit (c ∷ word) = IsAfter limit c
 
--- the word's first number is c
-abbrev pub BeginsWith : ℕ → List ℕ → Type 0
-BeginsWith c [] = ⊥
-BeginsWith c (d ∷ word) = d ≡ c
+-- the word's first number is c, which comes after the limit
+abbrev pub BeginsWith : Option ℕ → ℕ → List ℕ → Type 0
+BeginsWith limit c [] = ⊥
+BeginsWith limit c (d ∷ word) = (d ≡ c) × IsAfter limit c
 
 -- of the words with the property that lead on to the end, this is the first
 pub record IsFirst (h : Patch) (ts : List Triangle) (steps : List (ℕ × ℕ)) (P : List ℕ → Type 0) (word : List ℕ) (us : List Triangle) : Type 0 where

@@ -4,6 +4,7 @@ ghost use Rattle.ntfe_model.specs.declared.triangle.Triangle.{Triangle};
 ghost use Rattle.ntfe_model.specs.Lists.{IsBelow};
 ghost use Rattle.ntfe_model.specs.Words.{written as as_written};
 ghost use Rattle.ntfe_model.specs.Charts.{IsOf};
+ghost use Rattle.face_chart.specs.Steps.{AreApart};
 ghost use Rattle.fine_stream.specs.Paths.{AreOf, IsPart, Completes};
 ghost use Rattle.fine_stream.specs.Found.{IsAfter, BeginsAfter, BeginsWith, Adds, AddsNone};
 
@@ -42,37 +43,40 @@ pub fn add_first(
     if steps.is_empty() {
         return Ok(true);
     }
-    let (a, b) = steps[0];
     for c in chart.points() {
-        if is_after(limit, *c) {
-            let triangle = written(a, b, *c);
-            if fits(chart, path.triangles.as_slice(), &triangle) {
-                if add_with(alloc, chart, steps, *c, triangle, path)? {
-                    return Ok(true);
-                }
-            }
+        if add_with(alloc, chart, steps, limit, *c, path)? {
+            return Ok(true);
         }
     }
     Ok(false)
 }
 
-/// Adds to the path the first word that begins with a number that fits, and leads on to the end. The
-/// answer is whether there is one.
+/// Adds to the path the first word that begins with this number after the limit and leads on to the
+/// end. The answer is whether there is one.
 #[cycle(first)]
 fn add_with(
     alloc: Global,
     chart: &Chart,
     steps: &[(u32, u32)],
+    limit: Option<u32>,
     c: u32,
-    triangle: Triangle,
     path: &mut Path,
 ) -> Result<bool, AllocError>
+    requires apart { AreApart chart.now }
     requires some { 0 < length steps.now }
     requires points { AreOf chart.now steps.now }
-    requires triangle { (a b : ℕ) (fs : List (ℕ × ℕ)) → steps.now ≡ (a, b) ∷ fs → triangle ≡ as_written a b c }
-    requires part { IsPart chart.now (path.old.triangles.items ++ triangle ∷ []) }
-    ensures { IfOk result (λ found. MatchBool found (Adds chart.now steps.now (BeginsWith c) path.old path.new) (AddsNone chart.now steps.now (BeginsWith c) path.old path.new)) }
+    requires point { IsOf chart.now c }
+    requires part { IsPart chart.now path.old.triangles.items }
+    ensures { IfOk result (λ found. MatchBool found (Adds chart.now steps.now (BeginsWith limit c) path.old path.new) (AddsNone chart.now steps.now (BeginsWith limit c) path.old path.new)) }
 {
+    if !is_after(limit, c) {
+        return Ok(false);
+    }
+    let (a, b) = steps[0];
+    let triangle = written(a, b, c);
+    if !fits(chart, path.triangles.as_slice(), &triangle) {
+        return Ok(false);
+    }
     let next = next_front(alloc, steps, c)?;
     path.push(c, triangle)?;
     if add_first(alloc, chart, next.as_slice(), None, path)? {
