@@ -1,5 +1,5 @@
 -- What the calls of the search add to the path.
-use Rattle.std.proofs.Common.{◌≡◌, ◌≢◌, ℕ, zero, suc, ◌+◌, ◌-◌, ◌*◌, ◌<◌, ◌≤◌, Bool, true, false, refl, sym, ap, ◌∙◌, subst, arith, List, [], ◌∷◌, ◌++◌, take, length, get_or, Option, Some, None, append_assoc, append-nil, ◌==◌}
+use Rattle.std.proofs.Common.{◌≡◌, ◌≢◌, ℕ, zero, suc, ◌+◌, ◌-◌, ◌*◌, ◌<◌, ◌≤◌, Bool, true, false, refl, sym, ap, ◌∙◌, subst, arith, List, [], ◌∷◌, ◌++◌, take, drop, length, get_or, Option, Some, None, append_assoc, append-nil, ◌==◌}
 use Rattle.std.specs.Prelude.{All, AllPairs, Contains, MatchBool}
 use Rattle.std.proofs.lemmas.Bool.Decides.{nat_tests}
 use Rattle.std.proofs.lemmas.List.{take_all}
@@ -273,3 +273,11 @@ room_falls m us vs t e l = by (length us) (length vs) (ap length e ∙ one_more 
 
     by : (x y : ℕ) → y ≡ x + 1 → y ≤ m → 2 * (m - y) + 1 < 2 * (m - x)
     by x y p q = omega (arith, p, q)
+
+pub rest_is : (last : List ℕ) → take (length last - 1) (drop 1 last) ≡ rest_numbers last
+rest_is [] = refl
+rest_is (c ∷ last) = take_all (length (c ∷ last) - 1) last (omega arith)
+
+pub length_rest : (last : List ℕ) → 0 < length last → length (take (length last - 1) (drop 1 last)) < length last
+length_rest [] l = absurd (omega (arith, l))
+length_rest (c ∷ last) l = let e = ap length (rest_is (c ∷ last)) in omega arith

@@ -111,5 +111,6 @@ pub fn add_next(
         return Ok(true);
     }
     path.pop();
-    add_first(alloc, chart, steps, Some(c), path)
+    let found = add_first(alloc, chart, steps, Some(c), path)?;
+    Ok(found)
 }
