@@ -225,7 +225,7 @@ mixed_last n t c d e =
     ap (λ k. mixed n k c d) e
     ∙ (λ i. record { x1 = last_weight (pos n) c.x1 d.x1 i; x2 = last_weight (pos n) c.x2 d.x2 i; x3 = last_weight (pos n) c.x3 d.x3 i; x4 = last_weight (pos n) c.x4 d.x4 i })
 
-cross_back : (a b c d : Vector) → DoCross a b c d → DoCross c d a b
+pub cross_back : (a b c d : Vector) → DoCross a b c d → DoCross c d a b
 cross_back a b c d x = record {
   n = x.n;
   s = x.t;

@@ -3,3 +3,4 @@ pub mod Parts
 pub mod Bound
 pub mod Searches
 pub mod Finding
+pub mod Waiting
