@@ -1,16 +1,16 @@
 -- Sides of unit triples cross exactly where each separates the ends of the other.
 --     crossing_turns      two sides with different ends that cross lie so
 --     turns_crossing      and sides that lie so cross
-use Rattle.std.proofs.Common.{◌≡◌, ◌≢◌, ℕ, zero, suc, ◌+◌, ◌-◌, ◌<◌, ◌≤◌, ◌⊎◌, inl, inr, ⊎_elim, refl, sym, ap, ◌∙◌, subst, arith, ℤ, pos, negsuc, ◌+ℤ◌, ◌-ℤ◌, ◌*ℤ◌, ◌<ℤ◌, ◌≤ℤ◌, neg_ℤ, List, [], ◌∷◌, get_or}
+use Rattle.std.proofs.Common.{◌≡◌, ◌≢◌, ℕ, zero, suc, ◌+◌, ◌-◌, ◌<◌, ◌≤◌, ◌⊎◌, inl, inr, ⊎_elim, refl, sym, ap, ◌∙◌, subst, arith, ℤ, pos, negsuc, ◌+ℤ◌, ◌-ℤ◌, ◌*ℤ◌, ◌<ℤ◌, neg_ℤ, [], ◌∷◌, get_or}
 use Rattle.std.proofs.lemmas.Int.{ints}
-use Rattle.ntfe_nums.specs.Vectors.{Vector, numbers, coordinate, multiple, vector_sum, area, sign}
+use Rattle.ntfe_nums.specs.Vectors.{Vector, numbers, coordinate, multiple, area, sign}
 use Rattle.ntfe_nums.proofs.Ring.{Expression, ring}
 use Rattle.ntfe_nums.proofs.Ring.Expression.{var, num, plus, minus, times, neg}
 use Rattle.ntfe_model.specs.Charts.{Patch, axes, place, reached, turn, IsOf, IsUnit}
 use Rattle.ntfe_model.specs.Triangulations.{DoCross, mixed, IsEndOf, HaveSameEnds}
 use Rattle.face_chart.specs.Steps.{AreApart}
 use Rattle.fine_stream.specs.Paths.{AreOpposite}
-use Rattle.face_chart.proofs.PlaneNumbers.{zero_factor, cancel, positive_sign, sign_positive, sign_negative, positive_product, negative_product, area_turn, area_second, area_third, area_multiple, flat_last, flat_outer}
+use Rattle.face_chart.proofs.PlaneNumbers.{zero_factor, cancel, sign_positive, sign_negative, positive_product, negative_product, area_turn, area_second, area_third, area_multiple, flat_last, flat_outer}
 use Rattle.face_chart.proofs.UnitTriples.{area_of, unit_area, unit_areas, reached_first, reached_second}
 use Rattle.face_chart.proofs.Folds.{unit_three}
 
@@ -401,11 +401,11 @@ number_back n s t a b e c1 c2 d1 d2 along across =
 meets_back : (a b e c d : Vector) (n s t : ℕ) (c1 c2 d1 d2 : ℤ) → c ≡ reached a b e c1 c2 → d ≡ reached a b e d1 d2 → Meets n s t c1 c2 d1 d2 → mixed n s a b ≡ mixed n t c d
 meets_back a b e c d n s t c1 c2 d1 d2 rc rd m =
     (λ i. record {
-        x1 = number_back (pos n) (pos s) (pos t) a.x1 b.x1 e.x1 c1 c2 d1 d2 m.along m.across i;
-        x2 = number_back (pos n) (pos s) (pos t) a.x2 b.x2 e.x2 c1 c2 d1 d2 m.along m.across i;
-        x3 = number_back (pos n) (pos s) (pos t) a.x3 b.x3 e.x3 c1 c2 d1 d2 m.along m.across i;
-        x4 = number_back (pos n) (pos s) (pos t) a.x4 b.x4 e.x4 c1 c2 d1 d2 m.along m.across i;
-      })
+      x1 = number_back (pos n) (pos s) (pos t) a.x1 b.x1 e.x1 c1 c2 d1 d2 m.along m.across i;
+      x2 = number_back (pos n) (pos s) (pos t) a.x2 b.x2 e.x2 c1 c2 d1 d2 m.along m.across i;
+      x3 = number_back (pos n) (pos s) (pos t) a.x3 b.x3 e.x3 c1 c2 d1 d2 m.along m.across i;
+      x4 = number_back (pos n) (pos s) (pos t) a.x4 b.x4 e.x4 c1 c2 d1 d2 m.along m.across i;
+    })
     ∙ (λ i. mixed n t (sym rc i) (sym rd i))
 
 first_end : (n s : ℕ) (a b : ℤ) → 0 < s → (pos n -ℤ pos s) *ℤ a +ℤ pos s *ℤ b ≡ pos n *ℤ a → a ≡ b
@@ -442,18 +442,18 @@ last_end n s a b h e =
 no_end_between : (n s : ℕ) (a b : Vector) → 0 < s → s < n → a ≢ b → IsEndOf n (mixed n s a b) a b → ⊥
 no_end_between n s a b h k ne (inl e) =
     ne (λ i. record {
-        x1 = first_end n s a.x1 b.x1 h (ap (λ v. v.x1) e) i;
-        x2 = first_end n s a.x2 b.x2 h (ap (λ v. v.x2) e) i;
-        x3 = first_end n s a.x3 b.x3 h (ap (λ v. v.x3) e) i;
-        x4 = first_end n s a.x4 b.x4 h (ap (λ v. v.x4) e) i;
-      })
+      x1 = first_end n s a.x1 b.x1 h (ap (λ v. v.x1) e) i;
+      x2 = first_end n s a.x2 b.x2 h (ap (λ v. v.x2) e) i;
+      x3 = first_end n s a.x3 b.x3 h (ap (λ v. v.x3) e) i;
+      x4 = first_end n s a.x4 b.x4 h (ap (λ v. v.x4) e) i;
+    })
 no_end_between n s a b h k ne (inr e) =
     ne (λ i. record {
-        x1 = last_end n s a.x1 b.x1 k (ap (λ v. v.x1) e) i;
-        x2 = last_end n s a.x2 b.x2 k (ap (λ v. v.x2) e) i;
-        x3 = last_end n s a.x3 b.x3 k (ap (λ v. v.x3) e) i;
-        x4 = last_end n s a.x4 b.x4 k (ap (λ v. v.x4) e) i;
-      })
+      x1 = last_end n s a.x1 b.x1 k (ap (λ v. v.x1) e) i;
+      x2 = last_end n s a.x2 b.x2 k (ap (λ v. v.x2) e) i;
+      x3 = last_end n s a.x3 b.x3 k (ap (λ v. v.x3) e) i;
+      x4 = last_end n s a.x4 b.x4 k (ap (λ v. v.x4) e) i;
+    })
 
 crossing_from : (h : Patch) → AreApart h → (a b e c d n s t : ℕ) (c1 c2 d1 d2 : ℤ) → IsUnit h a b e → place h c ≡ reached (place h a) (place h b) (place h e) c1 c2
     → place h d ≡ reached (place h a) (place h b) (place h e) d1 d2 → Meets n s t c1 c2 d1 d2 → 0 < s → s < n → t ≤ n → DoCross (place h a) (place h b) (place h c) (place h d)

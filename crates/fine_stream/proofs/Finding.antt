@@ -1,12 +1,12 @@
 -- What the calls of the search add to the path.
-use Rattle.std.proofs.Common.{◌≡◌, ◌≢◌, ℕ, zero, suc, ◌+◌, ◌-◌, ◌*◌, ◌<◌, ◌≤◌, Bool, true, false, refl, sym, ap, ◌∙◌, subst, arith, List, [], ◌∷◌, ◌++◌, take, drop, length, get_or, Option, Some, None, append_assoc, append-nil, ◌==◌}
-use Rattle.std.specs.Prelude.{All, AllPairs, Contains, MatchBool}
+use Rattle.std.proofs.Common.{◌≡◌, ℕ, ◌+◌, ◌-◌, ◌*◌, ◌<◌, ◌≤◌, Bool, true, false, refl, sym, ap, ◌∙◌, subst, arith, List, [], ◌∷◌, ◌++◌, take, drop, length, get_or, Option, Some, None, append_assoc, append-nil, ◌==◌}
+use Rattle.std.specs.Prelude.{All, AllPairs, MatchBool}
 use Rattle.std.proofs.lemmas.Bool.Decides.{nat_tests}
 use Rattle.std.proofs.lemmas.List.{take_all}
 use Rattle.std.proofs.lemmas.List.Elements.{All-contains, All-more, All-same, Contains-get_or}
 use Rattle.ntfe_model.specs.Lists.{IsBelow}
 use Rattle.ntfe_model.specs.Charts.{Patch, IsOf, spot_numbers}
-use Rattle.ntfe_model.specs.Words.{after_side, written, Closes}
+use Rattle.ntfe_model.specs.Words.{written}
 use Rattle.ntfe_model.specs.declared.triangle.Triangle.{Triangle}
 use Rattle.fine_stream.specs.Paths.{AreOf, IsPart, Completes}
 use Rattle.fine_stream.specs.Found.{IsAfter, BeginsAfter, BeginsWith, IsFirst, HasNone, Adds, AddsNone}

@@ -4,3 +4,5 @@ pub mod Bound
 pub mod Searches
 pub mod Finding
 pub mod Waiting
+pub mod Numbers
+pub mod Standing

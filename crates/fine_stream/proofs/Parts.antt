@@ -2,12 +2,12 @@
 --     part_more, part_less      one triple more, and one less
 --     part_of_fine      the triples of a triangulation are a part
 --     part_once, part_apart      what a part has of a fine set
-use Rattle.std.proofs.Common.{◌≡◌, ◌≢◌, ℕ, zero, suc, ◌<◌, ◌⊎◌, inl, inr, ⊎_elim, refl, sym, ap, ◌∙◌, subst, arith, List, [], ◌∷◌, ◌++◌, ℤ, pos, negsuc}
+use Rattle.std.proofs.Common.{◌≡◌, ℕ, inl, inr, ⊎_elim, refl, sym, subst, arith, List, [], ◌∷◌, ◌++◌}
 use Rattle.std.specs.Prelude.{All, AllPairs, Contains}
-use Rattle.ntfe_model.specs.Charts.{Patch, place, turn, IsOf, IsUnit}
-use Rattle.ntfe_model.specs.Triangulations.{HasSide, HaveSameEnds, DoCross, IsSide, IsFine, IsSameTriple, IsTripleOf}
+use Rattle.ntfe_model.specs.Charts.{Patch, turn, IsUnit}
+use Rattle.ntfe_model.specs.Triangulations.{HasSide}
 use Rattle.ntfe_model.specs.declared.triangle.Triangle.{Triangle}
-use Rattle.ntfe_model.proofs.Listings.{Contains-here, Contains-there, Contains-cases, Contains-none, AllPairs-head, AllPairs-tail, AllPairs-append, All-from_contains}
+use Rattle.ntfe_model.proofs.Listings.{Contains-here, Contains-cases, Contains-none, AllPairs-head, AllPairs-tail, AllPairs-append, All-from_contains}
 use Rattle.std.proofs.lemmas.List.Elements.{All-contains, Contains-append_cases, Contains-append_left, Contains-append_right}
 use Rattle.std.proofs.lemmas.List.Kept.{AllPairs-cons}
 use Rattle.face_chart.specs.Steps.{AreApart}
@@ -62,7 +62,7 @@ each_side P u p q r z w s = by s
 pub compatible_sides : (h : Patch) (t u : Triangle) → ((z w : ℕ) → HasSide u z w → ¬ (AreInConflict h t.a t.b z w)) → ((z w : ℕ) → HasSide u z w → ¬ (AreInConflict h t.b t.c z w))
     → ((z w : ℕ) → HasSide u z w → ¬ (AreInConflict h t.c t.a z w)) → AreCompatible h t u
 compatible_sides h t u p q r = record {
-  apart = λ x y z w s o. each_side (λ i j. (z w : ℕ) → HasSide u z w → ¬ (AreInConflict h i j z w)) t p q r x y s z w o
+  apart = λ x y z w s o. each_side (λ i j. (z w : ℕ) → HasSide u z w → ¬ (AreInConflict h i j z w)) t p q r x y s z w o;
 }
 
 -- ---- one triple more, and less

@@ -6,7 +6,7 @@ use Rattle.std.proofs.lemmas.Int.{ints}
 use Rattle.std.proofs.lemmas.List.Elements.{All-contains, Contains-append_cases, Contains-append_left, Contains-append_right}
 use Rattle.ntfe_nums.specs.Vectors.{sign}
 use Rattle.ntfe_model.specs.Charts.{Patch, axes, place, turn, IsOf, IsUnit, IsStep, AreSteps}
-use Rattle.ntfe_model.specs.Triangulations.{HasSide, HaveSameEnds, DoCross, IsSide, IsFine, IsSameTriple, IsTripleOf}
+use Rattle.ntfe_model.specs.Triangulations.{HasSide, HaveSameEnds, DoCross, IsSide, IsFine, IsSameTriple}
 use Rattle.ntfe_model.specs.Words.{is_same_step, after_side, written, Closes, IsTriangulation}
 use Rattle.ntfe_model.specs.declared.triangle.Triangle.{Triangle}
 use Rattle.ntfe_model.specs.declared.triangulation.Triangulation.{Triangulation}
@@ -20,7 +20,7 @@ use Rattle.face_chart.proofs.Walk.{any_contains, after_keeps, after_only, after_
 use Rattle.face_chart.proofs.WordExists.{contains_any, triangulation_apart}
 use Rattle.face_chart.proofs.Folds.{unit_three}
 use Rattle.face_chart.proofs.ItemLemmas.{steps_fixed}
-use Rattle.fine_stream.specs.Paths.{AreOpposite, IsUnitSide, AreInConflict, AreCompatible, IsPart, Completes}
+use Rattle.fine_stream.specs.Paths.{AreOpposite, AreCompatible, IsPart, Completes}
 use Rattle.fine_stream.proofs.Crosses.{crossing_turns, cross_back}
 use Rattle.fine_stream.proofs.Parts.{unit_side, part_left, single_contains}
 use Rattle.fine_stream.proofs.Searches.{closed, fits_unit}
@@ -216,9 +216,9 @@ module _ (h : Patch) (apart : AreApart h) (ts : List Triangle) (p : IsPart h ts)
     unit = part_unit;
     once = part_once;
     edge = λ x y. (
-        (λ s. ⊎_elim (λ k. k) (λ n. Contains-none (y, x) (w.sides x y s.0 s.1 n)) (decide_step steps are x y)),
-        (λ s. (⊎_elim (λ k. k) (λ n. Contains-none (x, y) (w.steps x y s n)) (decide_is_side ts x y), outside x y s)),
-      );
+      (λ s. ⊎_elim (λ k. k) (λ n. Contains-none (y, x) (w.sides x y s.0 s.1 n)) (decide_step steps are x y)),
+      (λ s. (⊎_elim (λ k. k) (λ n. Contains-none (x, y) (w.steps x y s n)) (decide_is_side ts x y), outside x y s)),
+    );
     apart = part_apart;
   }
 
@@ -231,7 +231,7 @@ part_of_fine h us ts fine within d = record { unit = All-from_contains (λ t. Is
     compatible t u k l n = record {
       apart = λ x y z w s r q. ⊎_elim
           (λ e. n (fine.once u t l k x y (let A : ℕ → Type 0 = λ i. HasSide u i w in let B : ℕ → Type 0 = λ i. HasSide u x i in subst B (sym e.1) (subst A (sym e.0) r)) s))
-          (λ e. fine.apart x y z w (t, k, s) (u, l, r) e.0 e.1) q
+          (λ e. fine.apart x y z w (t, k, s) (u, l, r) e.0 e.1) q;
     }
 
     pairs : (vs : List Triangle) → ((t : Triangle) → Contains vs t → Contains us t) → AreDifferent vs → AllPairs (AreCompatible h) vs

@@ -13,7 +13,11 @@ fn is_before(e: (u32, u32), f: (u32, u32)) -> bool
 }
 
 /// The steps with one more, in its place.
-fn with_step(alloc: Global, e: (u32, u32), steps: &[(u32, u32)]) -> Result<Vec<(u32, u32)>, AllocError>
+fn with_step(
+    alloc: Global,
+    e: (u32, u32),
+    steps: &[(u32, u32)],
+) -> Result<Vec<(u32, u32)>, AllocError>
     ensures { IfOk result (λ v. v.items ≡ with_waiting e steps.now) }
 {
     let mut out = Vec::with_capacity(alloc, steps.len() + 1)?;
@@ -32,7 +36,11 @@ fn with_step(alloc: Global, e: (u32, u32), steps: &[(u32, u32)]) -> Result<Vec<(
 }
 
 /// The steps without one.
-fn without_step(alloc: Global, e: (u32, u32), steps: &[(u32, u32)]) -> Result<Vec<(u32, u32)>, AllocError>
+fn without_step(
+    alloc: Global,
+    e: (u32, u32),
+    steps: &[(u32, u32)],
+) -> Result<Vec<(u32, u32)>, AllocError>
     ensures { IfOk result (λ v. v.items ≡ filter (λ f. not (is_same_step e f)) steps.now) }
 {
     steps.iter().filter(|f| **f != e).map(|f| *f).collect(alloc)
@@ -56,7 +64,11 @@ fn after(alloc: Global, e: (u32, u32), steps: &[(u32, u32)]) -> Result<Vec<(u32,
 }
 
 /// The steps that wait once the first step of a front is closed to the triangle with a third point.
-pub fn next_front(alloc: Global, steps: &[(u32, u32)], c: u32) -> Result<Vec<(u32, u32)>, AllocError>
+pub fn next_front(
+    alloc: Global,
+    steps: &[(u32, u32)],
+    c: u32,
+) -> Result<Vec<(u32, u32)>, AllocError>
     requires { 0 < length steps.now }
     ensures { IfOk result (λ v. (a b : ℕ) (fs : List (ℕ × ℕ)) → steps.now ≡ (a, b) ∷ fs → v.items ≡ after_side (c, a) (after_side (b, c) fs)) }
 {

@@ -1,10 +1,10 @@
-use Rattle.std.proofs.Common.{◌≡◌, ℕ, ◌-◌, sym, subst, ◌∙◌, arith, length, List, take, drop, refl}
+use Rattle.std.proofs.Common.{ℕ, sym, subst, ◌∙◌, arith, length, List, refl}
 use Rattle.ntfe_model.specs.Words.{written}
 use Rattle.ntfe_model.specs.Lists.{IsBelow}
 use Rattle.ntfe_model.specs.declared.triangle.Triangle.{Triangle}
 use Rattle.fine_stream.specs.Paths.{Completes}
 use Rattle.fine_stream.specs.Found.{Adds, AddsNone}
-use Rattle.fine_stream.proofs.Finding.{when_true, when_false, some_long, step_on, step_part, step_points, first_number, rest_numbers, rest_is, length_rest, first_step, last_some, last_fits, last_point, step_last, next_step_found, next_step_passed, passed_answer}
+use Rattle.fine_stream.proofs.Finding.{when_true, when_false, some_long, step_on, step_part, step_points, first_number, rest_is, length_rest, first_step, last_some, last_fits, last_point, step_last, next_step_found, next_step_passed, passed_answer}
 use Rattle.fine_stream.proofs.search.+add_next.Goals as goal
 
 pub add_next-requires : goal.add_next-requires

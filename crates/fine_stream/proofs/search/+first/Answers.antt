@@ -1,9 +1,9 @@
-use Rattle.std.proofs.Common.{◌≡◌, ℕ, ◌+◌, ◌*◌, ◌<◌, ◌≤◌, sym, ap, subst, ◌∙◌, arith, length, List, refl, ◌++◌, ◌∷◌, [], true, false, None}
+use Rattle.std.proofs.Common.{◌*◌, sym, subst, ◌∙◌, arith, length, List, ◌++◌, ◌∷◌, []}
 use Rattle.ntfe_model.specs.Charts.{spot_numbers}
 use Rattle.ntfe_model.specs.declared.triangle.Triangle.{Triangle}
 use Rattle.fine_stream.specs.Paths.{IsPart}
 use Rattle.fine_stream.proofs.Bound.{part_bound}
-use Rattle.fine_stream.proofs.Finding.{when_true, when_false, some_long, adds_empty, adds_turn, none_turn, turning_more, triangle_of, adds_unfit, room_falls, IsStepOn, step_on, step_part, step_points, step_found, step_none}
+use Rattle.fine_stream.proofs.Finding.{when_true, when_false, some_long, adds_empty, adds_turn, none_turn, turning_more, triangle_of, adds_unfit, room_falls, step_on, step_part, step_points, step_found, step_none}
 use Rattle.fine_stream.proofs.search.+first.Goals as goal
 
 pub add_first-returns-then-is_empty : goal.add_first-returns-then-is_empty

@@ -1,4 +1,4 @@
-use Rattle.std.proofs.Common.{ℕ, ◌+◌, ◌-◌, ◌*◌, length}
+use Rattle.std.proofs.Common.{◌+◌, ◌-◌, ◌*◌, length}
 use Rattle.ntfe_model.specs.Charts.{spot_numbers}
 use Rattle.fine_stream.proofs.Finding.{IsTurning}
 use Rattle.fine_stream.proofs.search.+first.Given as goal

@@ -1,8 +1,8 @@
-use Rattle.std.proofs.Common.{◌≡◌, ℕ, ◌<◌, ◌++◌, ◌∷◌, [], take, length, slice_index_or, sym, refl, true, false}
+use Rattle.std.proofs.Common.{◌≡◌, take, sym, refl, true, false}
 use Rattle.std.proofs.lemmas.List.{take_all}
 use Rattle.std.proofs.lemmas.List.Elements.{All-more, All-same, All-contains, Contains-get_or}
 use Rattle.ntfe_model.specs.declared.triangle.Triangle.{Triangle}
-use Rattle.fine_stream.specs.Paths.{AreCompatible, IsPart}
+use Rattle.fine_stream.specs.Paths.{AreCompatible}
 use Rattle.fine_stream.proofs.Parts.{part_more, part_next}
 use Rattle.fine_stream.proofs.sides.fits.Goals as goal
 
