@@ -6,3 +6,5 @@ pub mod Finding
 pub mod Waiting
 pub mod Numbers
 pub mod Standing
+pub mod RowLemmas
+pub mod BookLemmas

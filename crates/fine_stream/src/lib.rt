@@ -3,11 +3,14 @@
 
 mod find;
 mod fronts;
+mod own_book;
 mod path;
 mod position;
+mod row;
 mod search;
 mod sides;
 mod stream;
 
+pub use own_book::OwnBook;
 pub use position::Position;
 pub use stream::Stream;
