@@ -11,3 +11,4 @@ pub mod LeastLemmas
 pub mod CloseLemmas
 pub mod TurnLemmas
 pub mod OutcomeLemmas
+pub mod CourseLemmas

@@ -8,3 +8,4 @@ pub mod Views
 pub mod Turns
 pub mod Settling
 pub mod Telling
+pub mod Courses
