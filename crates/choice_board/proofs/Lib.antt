@@ -12,3 +12,4 @@ pub mod CloseLemmas
 pub mod TurnLemmas
 pub mod OutcomeLemmas
 pub mod CourseLemmas
+pub mod CountLemmas

@@ -9,3 +9,4 @@ pub mod Turns
 pub mod Settling
 pub mod Telling
 pub mod Courses
+pub mod Counts
