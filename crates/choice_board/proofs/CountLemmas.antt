@@ -69,8 +69,8 @@ event_moves closes es c k = all_move closes es c _ false false false false false
 
 -- what a call says of the totals
 step_totals : (s t : State) (e : Event) → IsStep s e t → t.totals ≡ totals_by s.totals e
-step_totals s t (settles key v Stale) h = ap (λ x. x.totals) h.1
-step_totals s t (settles key v (Taken opened)) h = h.1.totals
+step_totals s t (settles key v Stale) h = ap (λ x. x.totals) h.1.1
+step_totals s t (settles key v (Taken opened)) h = h.1.1.totals
 step_totals s t (tells (TellsClass choice w)) h = h.3
 step_totals s t (tells (TellsWide choice step number)) h = h.3
 step_totals s t (tells (TellsFar face)) h = h.5

@@ -1,12 +1,12 @@
 -- Whatever is done with a board, the classes that it hands out are a list without gaps.
 use Rattle.std.proofs.Common.{◌≡◌, ◌∙◌, refl, sym, ap, subst, ◌⊎◌, inl, inr, ⊎_elim, ℕ, ◌<◌, List, [], ◌∷◌, ◌++◌, length, Option, Some, arith}
 use Rattle.std.specs.Prelude.{All, AllPairs, Contains}
-use Rattle.std.proofs.lemmas.List.Elements.{All-contains, Contains-append_left}
+use Rattle.std.proofs.lemmas.List.Elements.{All-append, All-contains, Contains-append_left}
 use Rattle.std.proofs.lemmas.List.Kept.{AllPairs-cons}
 use Rattle.ntfe_model.specs.Lists.{IsBelow}
 use Rattle.ntfe_model.specs.Shapes.{Shape}
 use Rattle.ntfe_model.specs.Choices.{IsChoice, IsExtendable}
-use Rattle.ntfe_model.specs.Keys.{IsAfter}
+use Rattle.ntfe_model.specs.Keys.{IsAfter, IsPruned}
 use Rattle.ntfe_model.specs.declared.nogood.Nogood.{Nogood}
 use Rattle.ntfe_model.proofs.Listings.{Contains-here, Contains-there, Contains-cases, All-from_contains, AllPairs-head}
 use Rattle.ntfe_model.proofs.Orders.{below_chain, three_ways}
@@ -17,8 +17,10 @@ use Rattle.choice_board.specs.Courses.{Event, settles, tells, closes, IsStep, Is
 use Rattle.choice_board.specs.declared.outcome.Outcome.TheVariants.{Class, Wide, Far}
 use Rattle.choice_board.specs.declared.record.Found.{Found}
 use Rattle.choice_board.specs.declared.record.Found.TheVariants.{Class as FoundClass}
+use Rattle.choice_board.specs.Verdicts.{IsTrueOf, pruned_by}
+use Rattle.choice_board.specs.declared.verdict.Verdict.{Verdict}
 use Rattle.choice_board.specs.declared.verdict.Settled.TheVariants.{Stale, Taken}
-use Rattle.choice_board.proofs.SettleLemmas.{after_below}
+use Rattle.choice_board.proofs.SettleLemmas.{after_below, blockable}
 
 -- the last clause follows from the one before
 finish : (g : Shape) (after : Option (List ℕ)) (classes : List (List ℕ)) (t : State) → t.geometry ≡ g
@@ -41,15 +43,29 @@ begins g after t e =
       falling = λ i j d l m. absurd (omega arith);
       above = λ i d l. absurd (omega arith);
       extendable = λ i d l. absurd (omega arith);
+      certified = (let P : State → Type 0 = λ s. All (λ p. IsPruned g p.0 p.1) s.pruned in subst P (sym e) (λ i d l. absurd (omega arith)));
       covers = covers;
       whole = finish g after [] t geometry covers;
     }
 
 -- ---- a call that hands out no class
 
+abbrev AreCertified : Shape → State → Type 0
+AreCertified g t = All (λ p. IsPruned g p.0 p.1) t.pruned
+
+certified_same : (g : Shape) (s t : State) → t.pruned ≡ s.pruned → AreCertified g s → AreCertified g t
+certified_same g s t e h = subst (All (λ p. IsPruned g p.0 p.1)) (sym e) h
+
+certified_more : (g : Shape) (s t : State) (key : List ℕ) (v : Verdict) → s.geometry ≡ g → IsTrueOf s.geometry key v → t.pruned ≡ s.pruned ++ pruned_by key v → AreCertified g s → AreCertified g t
+certified_more g s t key v e true_of f h =
+    let P : Shape → Type 0 = λ x. IsTrueOf x key v in
+    let here = subst P e true_of in
+    subst (All (λ p. IsPruned g p.0 p.1)) (sym f)
+    (All-append (λ p. IsPruned g p.0 p.1) s.pruned (pruned_by key v) h (All-from_contains (λ p. IsPruned g p.0 p.1) (pruned_by key v) (λ p q. (blockable g key v here p q).0)))
+
 still : (g : Shape) (after : Option (List ℕ)) (classes : List (List ℕ)) (s t : State) → IsWithoutGaps g after classes s → t.geometry ≡ s.geometry → t.last ≡ s.last
-    → ((c : List ℕ) → IsBlocked s c → IsBlocked t c) → IsWithoutGaps g after classes t
-still g after classes s t w geometry last kept =
+    → ((c : List ℕ) → IsBlocked s c → IsBlocked t c) → AreCertified g t → IsWithoutGaps g after classes t
+still g after classes s t w geometry last kept certified =
     let covers : (c : List ℕ) → IsChoice g c → IsAfter after c → IsAfter t.last c ⊎ Contains classes c ⊎ IsBlocked t c =
     λ c choice up.
     ⊎_elim (λ a. inl (let P : Option (List ℕ) → Type 0 = λ l. IsAfter l c in subst P (sym last) a)) (⊎_elim (λ p. inr (inl p)) (λ b. inr (inr (kept c b)))) (w.covers c choice up) in
@@ -59,6 +75,7 @@ still g after classes s t w geometry last kept =
       falling = w.falling;
       above = w.above;
       extendable = w.extendable;
+      certified = certified;
       covers = covers;
       whole = finish g after classes t (geometry ∙ w.geometry) covers;
     }
@@ -93,6 +110,7 @@ grows g after classes s t choice found w k extends last = record {
   last = last;
   falling = AllPairs-cons (λ x y. IsBelow y x) choice classes (above_all after classes choice w.falling up) w.falling;
   above = with_choice (IsAfter after) (above_start after classes choice w.above up) w.above;
+  certified = certified_same g s t k.pruned w.certified;
   extendable = with_choice (IsExtendable g) (let P : Shape → Type 0 = λ h. IsExtendable h choice in subst P w.geometry extends) w.extendable;
   covers = covers;
   whole = finish g after (choice ∷ classes) t geometry covers;
@@ -124,13 +142,19 @@ grows g after classes s t choice found w k extends last = record {
 
 step : (g : Shape) (after : Option (List ℕ)) (e : Event) (classes : List (List ℕ)) (s t : State) → IsWithoutGaps g after classes s → IsStep s e t → IsWithoutGaps g after (class_told e ++ classes) t
 step g after (settles key v Stale) classes s t w h =
-    still g after classes s t w (ap (λ x. x.geometry) h.1) (ap (λ x. x.last) h.1) (blocked_same s t (ap (λ x. x.pruned) h.1))
-step g after (settles key v (Taken opened)) classes s t w h = still g after classes s t w h.1.geometry h.1.last (blocked_more s t _ h.1.pruned)
+    let same = ap (λ x. x.pruned) h.1.1 in
+    still g after classes s t w (ap (λ x. x.geometry) h.1.1) (ap (λ x. x.last) h.1.1) (blocked_same s t same) (certified_same g s t same w.certified)
+step g after (settles key v (Taken opened)) classes s t w h =
+    still g after classes s t w h.1.1.geometry h.1.1.last (blocked_more s t _ h.1.1.pruned) (certified_more g s t key v w.geometry h.0 h.1.1.pruned w.certified)
 step g after (tells (Class choice heights)) classes s t w h =
     grows g after classes s t choice (FoundClass choice heights) w h.0 (record { items = h.0.is_true.0.0; heights = heights; extends = h.0.is_true.0.2 }) h.1
-step g after (tells (Wide choice number width)) classes s t w h = still g after classes s t w h.0.geometry h.1 (blocked_same s t h.0.pruned)
-step g after (tells (Far face)) classes s t w h = still g after classes s t w h.2.geometry h.3 (blocked_same s t h.2.pruned)
-step g after closes classes s t w h = still g after classes s t w (ap (λ x. x.geometry) h) (ap (λ x. x.last) h) (blocked_same s t (ap (λ x. x.pruned) h))
+step g after (tells (Wide choice number width)) classes s t w h =
+    still g after classes s t w h.0.geometry h.1 (blocked_same s t h.0.pruned) (certified_same g s t h.0.pruned w.certified)
+step g after (tells (Far face)) classes s t w h =
+    still g after classes s t w h.2.geometry h.3 (blocked_same s t h.2.pruned) (certified_same g s t h.2.pruned w.certified)
+step g after closes classes s t w h =
+    let same = ap (λ x. x.pruned) h in
+    still g after classes s t w (ap (λ x. x.geometry) h) (ap (λ x. x.last) h) (blocked_same s t same) (certified_same g s t same w.certified)
 
 pub without_gaps : (g : Shape) (after : Option (List ℕ)) (events : List Event) (t : State) → IsCourse g after events t → IsWithoutGaps g after (classes_told events) t
 without_gaps g after [] t h = begins g after t h

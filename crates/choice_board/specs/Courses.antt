@@ -3,10 +3,11 @@ use Rattle.std.specs.Prelude.{◌≡◌, ℕ, ◌<◌, ◌⊎◌, true, List, []
 use Rattle.ntfe_model.specs.Lists.{IsBelow}
 use Rattle.ntfe_model.specs.Shapes.{Shape}
 use Rattle.ntfe_model.specs.Choices.{IsChoice, IsExtendable}
-use Rattle.ntfe_model.specs.Keys.{IsAfter}
+use Rattle.ntfe_model.specs.Keys.{IsAfter, IsPruned}
 use Rattle.choice_board.specs.States.{State}
 use Rattle.choice_board.specs.Starts.{new_board}
 use Rattle.choice_board.specs.Settling.{IsSettledAs}
+use Rattle.choice_board.specs.Verdicts.{IsTrueOf}
 use Rattle.choice_board.specs.Telling.{IsHandedOut, IsBlocked, AreAllBlocked}
 use Rattle.choice_board.specs.declared.outcome.Outcome.{Outcome}
 use Rattle.choice_board.specs.declared.outcome.Outcome.TheVariants.{Class, Wide, Far}
@@ -19,9 +20,9 @@ pub data Event : Type 0 where
   tells : Outcome → Event
   closes : Event
 
--- what the call with this event does to a board
+-- what the call with this event asks and does; a verdict is true
 abbrev pub IsStep : State → Event → State → Type 0
-IsStep s (settles key v a) t = IsSettledAs s t key v a
+IsStep s (settles key v a) t = IsTrueOf s.geometry key v × IsSettledAs s t key v a
 IsStep s (tells o) t = IsHandedOut s t o
 IsStep s closes t = t ≡ record s { closed = true }
 
@@ -56,6 +57,8 @@ pub record IsWithoutGaps (g : Shape) (after : Option (List ℕ)) (classes : List
   pub falling : AllPairs (λ j k. IsBelow k j) classes
   pub above : All (IsAfter after) classes
   pub extendable : All (IsExtendable g) classes
+  -- each pruned key is blocked by its certificate
+  pub certified : All (λ p. IsPruned g p.0 p.1) t.pruned
   -- each choice above the start is above the last class, or was handed out, or begins with a pruned key
   pub covers : (c : List ℕ) → IsChoice g c → IsAfter after c → IsAfter t.last c ⊎ Contains classes c ⊎ IsBlocked t c
   -- and on a board that is finished and has not stopped, each was handed out or begins with a pruned key

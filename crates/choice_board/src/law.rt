@@ -7,8 +7,9 @@ ghost use Rattle.choice_board.specs.States.{State};
 
 /// A law: whatever calls are made on a new board, the classes that it hands out rise, all are
 /// extendable, and each choice above the start that is not above the last class was handed out or
-/// begins with a pruned key; once the board is finished and has not stopped, so is each choice above
-/// the start. The function does nothing: its contract is the law.
+/// begins with a pruned key, which its certificate blocks. Once the board is finished and has not
+/// stopped, this is so of each choice above the start. The function does nothing: its contract is
+/// the law.
 pub fn classes_have_no_gaps()
     ensures { (g : Shape) (after : Option (List ℕ)) (events : List Event) (t : State) → IsCourse g after events t → IsWithoutGaps g after (classes_told events) t }
 {}
