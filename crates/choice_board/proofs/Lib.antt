@@ -11,3 +11,5 @@ pub mod LeastLemmas
 pub mod CloseLemmas
 pub mod TurnLemmas
 pub mod OutcomeLemmas
+pub mod CourseLemmas
+pub mod CountLemmas

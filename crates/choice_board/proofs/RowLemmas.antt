@@ -151,14 +151,6 @@ pairs_map {X} {Y} R f (x ∷ xs) h =
 
 -- ---- a search by halves
 
-pub search_start : {X : Type 0} (key : X → List ℕ) (row : List X) (numbers : List ℕ) → IsBetween key row numbers 0 (length row)
-search_start key row numbers = record {
-  rising = omega arith;
-  within = omega arith;
-  higher = λ k d l. absurd (omega arith);
-  lower = λ k d l m. absurd (omega arith);
-}
-
 -- what stands at the middle is above the numbers
 pub search_behind : {X : Type 0} (key : X → List ℕ) (row : List X) (numbers : List ℕ) (low high middle : ℕ) (e : X) → IsFalling key row → IsBetween key row numbers low high → middle < high
     → IsBelow numbers (key (get_or row middle e)) → IsBetween key row numbers (middle + 1) high
@@ -202,12 +194,6 @@ search_before {X} key row numbers low high middle e falling b least less below =
         ⊎_elim (λ s. (let P : ℕ → Type 0 = λ i. IsBelow (key (get_or row i d)) numbers in subst P (sym s) (here d)))
         (λ s. below_chain (key (get_or row k d)) (key (get_or row middle d)) numbers (falling middle k d s m) (here d))
         (let r : (k ≡ middle) ⊎ (middle < k) = grind arith in r)
-
-pub search_done : {X : Type 0} (key : X → List ℕ) (row : List X) (numbers : List ℕ) (low high : ℕ) → IsBetween key row numbers low high → high ≤ low → IsPlaceFor key row numbers low
-search_done key row numbers low high b ended =
-    let e : high ≡ low = (let r = b.rising in omega arith) in
-    let P : ℕ → Type 0 = λ i. IsBetween key row numbers low i in
-    subst P e b
 
 pub same_at : {X : Type 0} (key : X → List ℕ) (row : List X) (numbers : List ℕ) (i : ℕ) (e d : X) → i < length row → key (get_or row i e) ≡ numbers → key (get_or row i d) ≡ numbers
 same_at key row numbers i e d inside h = ap key (get_or_default row i d e inside) ∙ h

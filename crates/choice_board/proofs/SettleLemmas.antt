@@ -131,10 +131,10 @@ recordable g key (Wide step number) r t e = recordable_at g key _ r e ((t, refl)
 recordable g key Far r t e = recordable_at g key _ r e (t, refl)
 recordable g key Descend r t e = cc
 
-abbrev IsBlockable : Shape → List ℕ → List ℕ × Nogood → Type 0
+abbrev pub IsBlockable : Shape → List ℕ → List ℕ × Nogood → Type 0
 IsBlockable g key p = IsPruned g p.0 p.1 × (p.0 ≡ key)
 
-blockable : (g : Shape) (key : List ℕ) (v : Verdict) → IsTrueOf g key v → (p : List ℕ × Nogood) → Contains (pruned_by key v) p → IsBlockable g key p
+pub blockable : (g : Shape) (key : List ℕ) (v : Verdict) → IsTrueOf g key v → (p : List ℕ × Nogood) → Contains (pruned_by key v) p → IsBlockable g key p
 blockable g key End t p c = Contains-none p c
 blockable g key (Pruned n) t p c = ⊎_elim (λ e. subst (IsBlockable g key) (sym e) (t, refl)) (λ q. Contains-none p q) (Contains-cases p (key, n) [] c)
 blockable g key (Class w) t p c = Contains-none p c

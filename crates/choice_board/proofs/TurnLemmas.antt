@@ -1,5 +1,5 @@
 -- Whether a recorded outcome has its turn, and what is so where none has.
-use Rattle.std.proofs.Common.{◌≡◌, ◌∙◌, sym, ap, subst, ◌⊎◌, inr, ⊎_elim, ℕ, suc, ◌-◌, ◌<◌, ◌≤◌, List, [], ◌∷◌, ◌++◌, length, take, drop, get_or, Bool, true, false, arith, length-append, length-drop}
+use Rattle.std.proofs.Common.{◌≡◌, ◌∙◌, sym, ap, subst, ◌⊎◌, inr, ⊎_elim, ℕ, suc, ◌-◌, ◌<◌, List, [], ◌∷◌, ◌++◌, length, take, drop, get_or, Bool, true, false, arith, length-append, length-drop}
 use Rattle.std.specs.Prelude.{All, Contains}
 use Rattle.std.specs.Ordering.{nat_cmp, is_lt}
 use Rattle.std.specs.declared.cmp.Ordering.{Ordering}
@@ -45,9 +45,6 @@ below_end keys key k falling some e below = All-from_contains (IsBelow key) keys
         below_chain key k j below up))
         (let d : (i ≡ length keys - 1) ⊎ (i < length keys - 1) = grind arith in d)
 
-pub turn_alone : (recorded : List Record) (keys : List (List ℕ)) (r : Record) → 0 < length recorded → r ≡ get_or recorded (length recorded - 1) r → length keys ≤ 0 → HasTurn recorded keys
-turn_alone recorded keys r some e none = (take (length recorded - 1) recorded, r, ended recorded r some e, λ k d l. absurd (omega arith))
-
 pub turn_before : (recorded : List Record) (keys : List (List ℕ)) (r : Record) (k : List ℕ) → IsFalling (λ x. x) keys → 0 < length recorded → r ≡ get_or recorded (length recorded - 1) r
     → 0 < length keys → k ≡ get_or keys (length keys - 1) k → IsBelow r.key k → HasTurn recorded keys
 turn_before recorded keys r k falling some e some_key f below =
@@ -60,10 +57,6 @@ no_turn recorded keys r k e some_key f never (rest, q, g, all) =
     let has : IsBelow q.key k = subst (IsBelow q.key) (sym f) (all (length keys - 1) k (omega arith)) in
     let P : Record → Type 0 = λ x. IsBelow x.key k in
     never (subst P (sym same) has)
-
-pub no_turn_none : (recorded : List Record) (keys : List (List ℕ)) → length recorded ≤ 0 → ¬ (HasTurn recorded keys)
-no_turn_none recorded keys none (rest, q, g, all) =
-    absurd (let l = length-append rest (q ∷ []) in let n : length recorded ≡ length (rest ++ q ∷ []) = ap length g in omega arith)
 
 -- what `is_lt` answers
 pub lt_true : (v w : List ℕ) (o : Ordering) (b : Bool) → b ≡ is_lt o → o ≡ slice_cmp nat_cmp v w → b ≡ true → IsBelow v w

@@ -8,3 +8,5 @@ pub mod Views
 pub mod Turns
 pub mod Settling
 pub mod Telling
+pub mod Courses
+pub mod Counts

@@ -3,6 +3,7 @@
 
 mod board;
 mod changes;
+mod law;
 mod made;
 mod outcome;
 mod record;
@@ -13,6 +14,7 @@ mod turn;
 mod verdict;
 
 pub use board::Board;
+pub use law::{classes_have_no_gaps, totals_count_the_calls};
 pub use outcome::Outcome;
 pub use totals::Totals;
 pub use verdict::{Settled, Verdict};
