@@ -37,7 +37,7 @@ fn item_folds<B: Book>(
 }
 
 /// Adds the folds of a two-face.
-fn add_rows(rows: &mut HeadRows, face: u32, folds: &[Fold]) -> Result<(), AllocError>
+pub fn add_rows(rows: &mut HeadRows, face: u32, folds: &[Fold]) -> Result<(), AllocError>
     ensures folds { OnOk result (rows.new.folds.items ≡ rows.old.folds.items ++ folds.now) }
     ensures faces { OnOk result (rows.new.faces.items ≡ rows.old.faces.items ++ replicate (length folds.now) face) }
 {

@@ -6,6 +6,7 @@ mod fetching;
 mod finding;
 mod head;
 mod probing;
+mod shelf;
 mod solving;
 
 pub use finding::Finding;
