@@ -11,3 +11,4 @@ mod solving;
 
 pub use finding::Finding;
 pub use probing::probe;
+pub use shelf::Shelf;

@@ -6,11 +6,12 @@ ghost use Rattle.ntfe_model.specs.Keys.{IsKey};
 ghost use Rattle.ntfe_model.specs.Shapes.{IsShape};
 ghost use Rattle.nogood_set.specs.Blocking.{NoneBlocks};
 ghost use Rattle.node_probe.specs.Heads.{KeepsHead};
+ghost use Rattle.node_probe.specs.Shelves.{patches};
 ghost use Rattle.node_probe.specs.Findings.{IsWithin, IsFinding};
 
 use crate::fetching::fetch_head;
 use crate::finding::Finding;
-use crate::head::head_rows;
+use crate::shelf::Shelf;
 use crate::solving::{make_room, solve_head};
 use nogood_set::NogoodSet;
 use ntfe_model::{Book, Geometry, ITEM_LIMIT, Key};
@@ -56,7 +57,8 @@ fn found_before<B: Book>(
 ///   2^width in size, were too wide;
 /// - a two-face is left.
 ///
-/// The items that were looked for are kept in the book, which loses none. Where the head has more
+/// The items that were looked for are kept in the book, which loses none, and their folds on the shelf
+/// of the geometry. Where the head has more
 /// folds than the tableau has rows, a larger one takes its place.
 ///
 /// # Errors
@@ -66,6 +68,7 @@ pub fn probe<B: Book>(
     geometry: &Geometry,
     key: &Key,
     book: &mut B,
+    shelf: &mut Shelf,
     set: &NogoodSet,
     tableau: &mut Tableau,
     width: u8,
@@ -73,11 +76,13 @@ pub fn probe<B: Book>(
     requires key { IsKey geometry.now key.now }
     requires shape { B.shape book.old ≡ geometry.now }
     requires set { All (IsCertificate geometry.now) set.now }
+    requires patches { shelf.old ≡ patches geometry.now }
     requires columns { tableau.old.columns ≡ length geometry.now.points }
     requires low { 1 ≤ width }
     requires high { width ≤ 62 }
     ensures shape { B.shape book.new ≡ B.shape book.old }
     ensures kept { KeepsAll (B.keeps book.old) (B.keeps book.new) }
+    ensures patches { shelf.new ≡ shelf.old }
     ensures columns { tableau.new.columns ≡ tableau.old.columns }
     ensures finding { IfOk result (IsFinding geometry.now width key.now set.now) }
 {
@@ -85,7 +90,7 @@ pub fn probe<B: Book>(
     if let Some(finding) = found_before(geometry, key, book, set)? {
         return Ok(finding);
     }
-    let rows = head_rows(alloc, geometry, key, book)?;
+    let rows = shelf.head_rows(alloc, key, book)?;
     make_room(alloc, tableau, rows.folds.len() as u32, columns)?;
     solve_head(alloc, geometry, key, &rows, tableau, width)
 }

@@ -1,4 +1,6 @@
-use Rattle.std.proofs.Common.{◌≤◌, arith}
+use Rattle.std.proofs.Common.{◌≤◌, ◌∙◌, subst, arith}
+use Rattle.ntfe_model.specs.Shapes.{Shape}
+use Rattle.ntfe_model.specs.Keys.{AreHeadFolds}
 use Rattle.std.proofs.Math.Facts.{Fits-below}
 use Rattle.node_probe.proofs.Counts.{head_few}
 use Rattle.node_probe.proofs.KeyLemmas.{match_some}
@@ -10,7 +12,9 @@ head_rows-requires-clause-few g c = let k = key_few c.args.geometry.now c.points
 
 pub overflow_cast-len : goal.overflow_cast-len
 overflow_cast-len g c =
-    let few = head_few c.args.geometry.now c.points.ensures.shape c.args.key.now c.in_ok-rows.rows.folds.items c.requires.key.at_most c.in_ok-rows.ensures.folds in
+    let P : Shape → Type 0 = λ h. AreHeadFolds h 0 c.args.key.now c.in_ok-rows.rows.folds.items in
+    let folds = subst P (c.found_before.ensures.shape ∙ c.requires.shape) c.in_ok-rows.ensures.rows.folds in
+    let few = head_few c.args.geometry.now c.points.ensures.shape c.args.key.now c.in_ok-rows.rows.folds.items c.requires.key.at_most folds in
     let e = c.len.ensures in
     let v = c.in_ok-rows.rows.folds.ok.0 in
     Fits-below tt (let r : c.len.result ≤ 4294967295 = omega (arith, few, e, v) in r)
