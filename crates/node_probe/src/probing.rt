@@ -58,8 +58,8 @@ fn found_before<B: Book>(
 /// - a two-face is left.
 ///
 /// The items that were looked for are kept in the book, which loses none, and their folds on the shelf
-/// of the geometry. Where the head has more
-/// folds than the tableau has rows, a larger one takes its place.
+/// of the geometry. Where the head has more folds than the tableau has rows, a larger one takes its
+/// place.
 ///
 /// # Errors
 /// `AllocError` where memory is short.
