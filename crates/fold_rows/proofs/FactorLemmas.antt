@@ -5,8 +5,9 @@ use Rattle.std.proofs.lemmas.Int.{ints, quot-rem, rem_below, unsigned_abs-mul, f
 use Rattle.ntfe_nums.specs.Sizes.{AreWithin}
 use Rattle.ntfe_nums.specs.Vectors.{Vector, numbers}
 use Rattle.ntfe_nums.proofs.Ring.{Expression, ring}
-use Rattle.ntfe_nums.proofs.Ring.Expression.{var, num, plus, minus, times}
+use Rattle.ntfe_nums.proofs.Ring.Expression.{var, plus, minus, times}
 use Rattle.ntfe_nums.proofs.Machine.{AreBounded, AreWithin-four, back, exact, fits, value-size}
+use Rattle.ntfe_model.proofs.FoldSizes.{size_above, factor_size, factor_product, no_gap}
 use Rattle.fold_rows.specs.Rows.{IsFactorAt, IsBalance}
 
 -- ---- exact quotients
@@ -14,16 +15,6 @@ use Rattle.fold_rows.specs.Rows.{IsFactorAt, IsBalance}
 small_factor : (n d : ℕ) → n * d < d → n ≡ 0
 small_factor zero d h = refl
 small_factor (suc m) d h = absurd (omega arith)
-
-size_above : (d : ℤ) → d ≢ pos 0 → 0 < unsigned_abs d
-size_above d h = from (unsigned_abs d) (λ e. h (zero_size d e))
-  where
-    zero_size : (z : ℤ) → unsigned_abs z ≡ 0 → z ≡ pos 0
-    zero_size z e = omega (arith, ints, e)
-
-    from : (n : ℕ) → n ≢ 0 → 0 < n
-    from zero q = absurd (q refl)
-    from (suc n) q = omega arith
 
 -- a multiple of d divided by d
 pub exact_quotient : (s d : ℤ) → d ≢ pos 0 → int_div (s *ℤ d) d ≡ s
@@ -42,31 +33,6 @@ exact_quotient s d h =
     below x y z g k = omega (arith, g, k)
 
     same : (x y : ℤ) → unsigned_abs (x -ℤ y) ≡ 0 → y ≡ x
-    same x y g = omega (arith, ints, g)
-
--- a factor of a product is no larger than the product, unless the other is 0
-pub factor_size : (n d m : ℤ) → d ≢ pos 0 → m ≡ n *ℤ d → unsigned_abs n ≤ unsigned_abs m
-factor_size n d m h e = from (unsigned_abs n) (unsigned_abs d) (unsigned_abs m) (size_above d h) (ap unsigned_abs e ∙ unsigned_abs-mul n d)
-  where
-    from : (i j k : ℕ) → 0 < j → k ≡ i * j → i ≤ k
-    from i zero k l q = absurd (omega (arith, l))
-    from i (suc j) k l q = let z : 0 ≤ i * j = omega arith in omega (arith, q, z)
-
--- ---- one coordinate
-
--- c - a + (d - a) is n times b - a
-pub factor_product : (a b c d n : ℤ) → c +ℤ d ≡ (pos 2 -ℤ n) *ℤ a +ℤ n *ℤ b → c -ℤ a +ℤ (d -ℤ a) ≡ n *ℤ (b -ℤ a)
-factor_product a b c d n e =
-    first a c d ∙ ap (λ z. z -ℤ (a +ℤ a)) e
-    ∙ ring (a ∷ b ∷ n ∷ []) (minus (plus (times (minus (num (pos 2)) (var 2)) (var 0)) (times (var 2) (var 1))) (plus (var 0) (var 0))) (times (var 2) (minus (var 1) (var 0))) refl
-  where
-    first : (a c d : ℤ) → c -ℤ a +ℤ (d -ℤ a) ≡ c +ℤ d -ℤ (a +ℤ a)
-    first a c d = omega (arith, ints)
-
-no_gap : (a b : ℤ) → a ≢ b → b -ℤ a ≢ pos 0
-no_gap a b h e = h (same a b e)
-  where
-    same : (x y : ℤ) → y -ℤ x ≡ pos 0 → x ≡ y
     same x y g = omega (arith, ints, g)
 
 -- ---- in words of 64 bits

@@ -1,13 +1,16 @@
+pub mod Counts
 pub mod Digits
 pub mod Examples
 pub mod Listings
 pub mod Orders
 pub mod SmallVectors
+pub mod GeometryPoints
 pub mod PlaneNumbers
 pub mod UnitTriples
 pub mod Areas
 pub mod Triples
 pub mod Items
 pub mod Folds
+pub mod FoldSizes
 pub mod Levels
 pub mod FoldPlanes

@@ -1,7 +1,6 @@
 pub mod Answered
 pub mod Asked
 pub mod Completeness
-pub mod Counts
 pub mod Crossing
 pub mod FaceTriangle
 pub mod InputsFixed

@@ -1,5 +1,5 @@
 use Rattle.std.proofs.Common.{◌≤◌, length, arith}
-use Rattle.ntfe_run.proofs.Counts.{faces_few}
+use Rattle.ntfe_model.proofs.Counts.{faces_few}
 use Rattle.ntfe_run.proofs.classes.text_form.Goals as goal
 
 pub overflow_cast-result-2 : goal.overflow_cast-result-2

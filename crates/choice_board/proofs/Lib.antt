@@ -1,0 +1,13 @@
+pub mod KeyOrder
+pub mod PlaceLemmas
+pub mod RowLemmas
+pub mod ItemNumbers
+pub mod Holders
+pub mod SettleLemmas
+pub mod StartLemmas
+pub mod TellLemmas
+pub mod FaceCount
+pub mod LeastLemmas
+pub mod CloseLemmas
+pub mod TurnLemmas
+pub mod OutcomeLemmas

@@ -1,0 +1,10 @@
+pub mod Rows
+pub mod Places
+pub mod Verdicts
+pub mod States
+pub mod Making
+pub mod Starts
+pub mod Views
+pub mod Turns
+pub mod Settling
+pub mod Telling

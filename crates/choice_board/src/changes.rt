@@ -1,0 +1,62 @@
+//! Changes of the board's rows that can't fail, once there is room.
+ghost use Rattle.std.specs.Prelude.{◌≡◌, ◌≢◌, ◌+◌, ◌<◌, ◌≤◌, ◌⊎◌, ◌↔◌, ◌++◌, ℕ, List, length, Some, Contains, OnOk, vec_len, vec_capacity};
+ghost use Rattle.choice_board.specs.Making.{record_made, pruned_made};
+ghost use Rattle.choice_board.specs.Rows.{IsFalling};
+ghost use Rattle.choice_board.specs.declared.record.Record.{Record};
+
+use crate::made::Made;
+use crate::record::Record;
+use crate::rows::{insert_key, insert_record};
+use ntfe_model::{Key, Nogood};
+use std::alloc::AllocError;
+
+/// Makes room for one more entry in each row. All entries stay.
+///
+/// # Errors
+/// `AllocError` where memory is short.
+pub fn make_room(
+    keys: &mut Vec<Key>,
+    recorded: &mut Vec<Record>,
+    pruned: &mut Vec<(Key, Nogood)>,
+) -> Result<(), AllocError>
+    ensures keys { keys.new.items ≡ keys.old.items }
+    ensures recorded { recorded.new.items ≡ recorded.old.items }
+    ensures pruned { pruned.new.items ≡ pruned.old.items }
+    ensures keys_room { OnOk result (vec_len keys.new < vec_capacity keys.new) }
+    ensures recorded_room { OnOk result (vec_len recorded.new < vec_capacity recorded.new) }
+    ensures pruned_room { OnOk result (vec_len pruned.new < vec_capacity pruned.new) }
+{
+    keys.reserve(1)?;
+    recorded.reserve(1)?;
+    pruned.reserve(1)?;
+    Ok(())
+}
+
+/// Puts the keys into the row, which has room.
+pub fn insert_keys(row: &mut Vec<Key>, mut keys: Vec<Key>)
+    requires falling { IsFalling (λ k. k) row.old.items }
+    requires room { vec_len row.old + length keys.items ≤ vec_capacity row.old }
+    ensures falling { IsFalling (λ k. k) row.new.items }
+    ensures items { (k : List ℕ) → Contains row.new.items k ↔ (Contains row.old.items k ⊎ Contains keys.items k) }
+{
+    while let Some(key) = keys.pop() {
+        insert_key(row, key);
+    }
+}
+
+/// Puts what was made of a key into its row, which has room. No recorded outcome has the key.
+pub fn put(recorded: &mut Vec<Record>, pruned: &mut Vec<(Key, Nogood)>, key: Key, made: Made)
+    requires falling { IsFalling (λ r. r.key) recorded.old.items }
+    requires recorded_room { vec_len recorded.old < vec_capacity recorded.old }
+    requires pruned_room { vec_len pruned.old < vec_capacity pruned.old }
+    requires fresh { (r : Record) → Contains recorded.old.items r → r.key ≢ key }
+    ensures falling { IsFalling (λ r. r.key) recorded.new.items }
+    ensures recorded { (r : Record) → Contains recorded.new.items r ↔ (Contains recorded.old.items r ⊎ (record_made key made ≡ Some r)) }
+    ensures pruned { pruned.new.items ≡ pruned.old.items ++ pruned_made key made }
+{
+    match made {
+        Made::Nothing => (),
+        Made::Told(found) => insert_record(recorded, Record { key, found }),
+        Made::Blocked(nogood) => pruned.push_reserved((key, nogood)),
+    }
+}

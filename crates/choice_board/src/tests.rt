@@ -1,0 +1,87 @@
+//! Examples of what no geometry is needed for.
+ghost use Rattle.std.specs.Prelude.{◌≡◌, IfOk};
+
+use crate::changes::insert_keys;
+use crate::made::opened_keys;
+use crate::outcome::{Outcome, outcome_of};
+use crate::record::Found;
+use crate::rows::Keyed;
+use crate::start::start_keys;
+use crate::totals::Totals;
+use crate::turn::has_turn;
+use crate::verdict::Verdict;
+use ntfe_model::{Key, List};
+use std::alloc::{AllocError, Global};
+
+fn key(alloc: Global, numbers: &[u32]) -> Result<Key, AllocError>
+    ensures { IfOk result (λ k. k ≡ numbers.now) }
+{
+    Ok(Key(List::from_vec(Vec::from_slice(alloc, numbers)?)))
+}
+
+#[test]
+fn nothing_is_open_without_two_faces(rt: HostRuntime) -> Result<(), AllocError> {
+    let keys = start_keys(rt.alloc(), 0, &None)?;
+    assert!(rt; keys.is_empty());
+    Ok(())
+}
+
+#[test]
+fn the_key_0_is_open(rt: HostRuntime) -> Result<(), AllocError> {
+    let keys = start_keys(rt.alloc(), 3, &None)?;
+    assert!(rt; keys.len() == 1 && keys[0].numbers() == [0].as_slice());
+    Ok(())
+}
+
+#[test]
+fn no_total_passes_its_most(rt: HostRuntime) {
+    let full = Totals {
+        settled: 1 << 63,
+        stale: 1 << 63,
+        classes: 0,
+        pruned: 0,
+        written: 4,
+    };
+    let after = full
+        .with_stale()
+        .with_taken(&Verdict::Descend)
+        .with_written();
+    assert_eq!(rt;
+        (after.settled, after.stale, after.written),
+        (1 << 63, 1 << 63, 5)
+    );
+}
+
+#[test]
+fn keys_stand_from_the_greatest_down(rt: HostRuntime) -> Result<(), AllocError> {
+    let alloc = rt.alloc();
+    let mut row = Vec::with_capacity(alloc, 2)?;
+    insert_keys(
+        &mut row,
+        vec![in alloc; key(alloc, &[0, 7])?, key(alloc, &[1])?]?,
+    );
+    assert!(rt; row.len() == 2 && row[0].numbers() == [1].as_slice());
+    Ok(())
+}
+
+#[test]
+fn a_key_is_gone_into(rt: HostRuntime) -> Result<(), AllocError> {
+    let alloc = rt.alloc();
+    let opened = opened_keys(alloc, &key(alloc, &[2])?, &Verdict::Descend)?;
+    assert!(rt; opened.len() == 2 && opened[0].numbers() == [2, 0].as_slice());
+    assert!(rt; opened[1].numbers() == [3].as_slice());
+    Ok(())
+}
+
+#[test]
+fn nothing_has_its_turn(rt: HostRuntime) {
+    assert!(rt; !has_turn(&[], &[]));
+}
+
+#[test]
+fn a_far_key_tells_its_two_face(rt: HostRuntime) -> Result<(), AllocError> {
+    let alloc = rt.alloc();
+    let outcome = outcome_of(&key(alloc, &[2, 1_048_576])?, Found::Far);
+    assert!(rt; matches!(outcome, Outcome::Far { face: 1 }));
+    Ok(())
+}

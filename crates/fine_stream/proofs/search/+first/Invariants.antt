@@ -1,0 +1,13 @@
+use Rattle.std.proofs.Common.{◌+◌, ◌-◌, ◌*◌, length}
+use Rattle.ntfe_model.specs.Charts.{spot_numbers}
+use Rattle.fine_stream.proofs.Finding.{IsTurning}
+use Rattle.fine_stream.proofs.search.+first.Given as goal
+
+abbrev pub decreases-add_first : goal.decreases-add_first
+decreases-add_first l = 2 * (length (spot_numbers l.chart.now) * length (spot_numbers l.chart.now) - length l.path.now.triangles.items) + 1
+
+abbrev pub decreases-add_with : goal.decreases-add_with
+decreases-add_with l = 2 * (length (spot_numbers l.chart.now) * length (spot_numbers l.chart.now) - length l.path.now.triangles.items)
+
+abbrev pub invariant-add_first-loop-c : goal.invariant-add_first-loop-c
+invariant-add_first-loop-c l = IsTurning l.chart l.steps l.limit l.c-items l.c-index l.fn.path l.path

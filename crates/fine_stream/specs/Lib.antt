@@ -1,0 +1,4 @@
+pub mod Paths
+pub mod Found
+pub mod Cursors
+pub mod Rows

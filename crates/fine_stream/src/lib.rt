@@ -1,0 +1,16 @@
+//! The fine triangulations of a two-face, each once, in order of words.
+#![tactic(auto)]
+
+mod find;
+mod fronts;
+mod own_book;
+mod path;
+mod position;
+mod row;
+mod search;
+mod sides;
+mod stream;
+
+pub use own_book::OwnBook;
+pub use position::Position;
+pub use stream::Stream;

@@ -1,0 +1,98 @@
+//! The fine triangulations of a two-face, one after the other.
+ghost use Rattle.std.specs.Prelude.{◌≡◌, ℕ, IfOk, OnErr};
+ghost use Rattle.ntfe_model.specs.Words.{IsItem};
+
+use crate::find::find;
+use crate::position::Position;
+use face_chart::Chart;
+use ntfe_model::Triangulation;
+use std::alloc::{AllocError, Global};
+use std::marker::Model;
+
+/// The fine triangulations of a two-face in order of words, each once.
+#[derive(Drop)]
+pub struct Stream {
+    alloc: Global,
+    chart: Chart,
+    position: Position,
+}
+
+impl Model for Stream {
+    ghost use Rattle.fine_stream.specs.Cursors.{Cursor, IsCursor};
+
+    ghost Value = { Cursor };
+
+    ghost view = { λ s. record { patch = s.chart; position = s.position } };
+
+    ghost invariant = { λ s. IsCursor (record { patch = s.chart; position = s.position }) };
+}
+
+impl Stream {
+    ghost use Rattle.fine_stream.specs.Cursors.{IsNextItem};
+    ghost use Rattle.fine_stream.specs.declared.position.Position.TheVariants.{Start, After};
+
+    /// The stream that stands before the first item.
+    ///
+    /// # Errors
+    /// `AllocError` where memory is short.
+    pub fn new(alloc: Global, chart: Chart) -> Result<Stream, AllocError>
+        ensures patch { IfOk result (λ s. s.patch ≡ chart) }
+        ensures position { IfOk result (λ s. s.position ≡ Start) }
+    {
+        Ok(Stream {
+            alloc,
+            chart,
+            position: Position::Start,
+        })
+    }
+
+    /// The stream that stands after an item.
+    ///
+    /// # Errors
+    /// `AllocError` where memory is short.
+    pub fn from_word(
+        alloc: Global,
+        chart: Chart,
+        last: &Triangulation,
+    ) -> Result<Stream, AllocError>
+        requires { (n : ℕ) × IsItem chart n last.now }
+        ensures patch { IfOk result (λ s. s.patch ≡ chart) }
+        ensures position { IfOk result (λ s. s.position ≡ After last.now.word) }
+    {
+        let word = last.word.try_clone(alloc)?;
+        Ok(Stream {
+            alloc,
+            chart,
+            position: Position::After(word),
+        })
+    }
+
+    /// The points of the two-face, and what is asked of them. Takes no memory.
+    pub fn chart(&self) -> &Chart
+        ensures { result.now ≡ self.now.patch }
+    {
+        &self.chart
+    }
+
+    /// The next item, or none where there is no more.
+    ///
+    /// # Errors
+    /// `AllocError` where memory is short. The stream stands where it stood.
+    pub fn next(&mut self) -> Result<Option<Triangulation>, AllocError>
+        ensures patch { self.new.patch ≡ self.old.patch }
+        ensures answer { IfOk result (IsNextItem self.old self.new) }
+        ensures unchanged { OnErr result (self.new ≡ self.old) }
+    {
+        match find(self.alloc, &self.chart, &self.position)? {
+            None => {
+                self.position = Position::End;
+                Ok(None)
+            }
+            Some(item) => {
+                let word = item.word.try_clone(self.alloc)?;
+                self.position = Position::After(word);
+                Ok(Some(item))
+            }
+        }
+    }
+}
