@@ -10,9 +10,6 @@ use Rattle.fold_rows.specs.Rows.{HasPoint, AreAround}
 only : (t u : Triangle) → Contains (u ∷ []) t → t ≡ u
 only t u c = ⊎_elim (λ e. e) (λ d. Contains-none t d) (Contains-cases t u [] c)
 
-pub around_none : (a : ℕ) → AreAround [] a []
-around_none a = record { sound = λ t c. c; complete = λ t c p. c }
-
 around_one : (ts us : List Triangle) (t : Triangle) (a : ℕ) → AreAround ts a us → AreAround (ts ++ t ∷ []) a (us ++ t ∷ [])
 around_one ts us t a h = record {
   sound = λ u c. ⊎_elim (λ d. Contains-append_left ts (t ∷ []) u (h.sound u d)) (λ d. Contains-append_right ts (t ∷ []) u d) (Contains-append_cases us (t ∷ []) u c);

@@ -104,16 +104,6 @@ module _ (ps qs : List Part) (p : Part) (h : AddsPart ps p qs) where
 
 -- ---- one term more
 
-pub assembled_none : (head : List ℕ) (rs : List Fold) (faces : List ℕ) → IsAssembled head rs faces [] [] []
-assembled_none head rs faces = record {
-  times = refl;
-  folds = refl;
-  named = λ j d e l. absurd (omega (arith, l));
-  items = λ k d l. absurd (omega (arith, l));
-  rising = λ i j d l m. absurd (omega (arith, m));
-  used = λ k l. absurd (omega (arith, l));
-}
-
 module _ (head : List ℕ) (rs : List Fold) (faces : List ℕ) (count : length faces ≡ length rs) (rising : AllPairs (λ e f. e ≤ f) faces) (ms : List (ℕ × ℤ)) (ps : List Part) (ts : List Term)
     (h : IsAssembled head rs faces ms ps ts) (e : ℕ × ℤ) (known : e.0 < length rs) (later : (j : ℕ) (d : ℕ × ℤ) → j < length ms → (get_or ms j d).0 < e.0)
     (p : Part) (face : p.face ≡ get_or faces e.0 0) (item : (p.face < length head) × (get_or head p.face 0 ≡ p.item)) (qs : List Part) (adds : AddsPart ps p qs) where

@@ -6,10 +6,8 @@ use Rattle.ntfe_model.specs.Shapes.{Shape, IsShape}
 use Rattle.ntfe_model.specs.Certificates.{IsCertificate}
 use Rattle.ntfe_model.specs.Keys.{item_limit, last_number, IsKey}
 use Rattle.ntfe_model.specs.declared.nogood.Nogood.{Nogood}
-use Rattle.nogood_set.specs.Blocking.{NoneBlocks, IsFirstBlocking}
-use Rattle.node_probe.specs.declared.finding.Finding.{Finding}
-use Rattle.node_probe.specs.declared.finding.Finding.TheVariants.{End, Far, Blocked, Refuted, Wide, Class, Descend}
-use Rattle.node_probe.specs.Findings.{IsWithin, IsBlockedAt, IsSolution, IsFinding}
+use Rattle.nogood_set.specs.Blocking.{IsFirstBlocking}
+use Rattle.node_probe.specs.Findings.{IsBlockedAt}
 use Rattle.node_probe.proofs.Counts.{faces_few}
 
 pub key_few : (g : Shape) → IsShape g → (key : List ℕ) → IsKey g key → length key ≤ 4225
@@ -32,13 +30,3 @@ blocked_at g set key place all near first = record {
     first.blocks,
   );
 }
-
--- what the solver finds is found, where nothing was before
-pub solution_found : (g : Shape) (width : ℕ) (key : List ℕ) (set : List Nogood) → IsWithin g key → NoneBlocks set key → (x : Finding) → IsSolution g width key x → IsFinding g width key set x
-solution_found g width key set within free (Refuted n) s = (within, free, s)
-solution_found g width key set within free (Wide step number) s = (within, free, s)
-solution_found g width key set within free (Class w) s = (within, free, s)
-solution_found g width key set within free Descend s = (within, free, s)
-solution_found g width key set within free End s = absurd s
-solution_found g width key set within free (Far face) s = absurd s
-solution_found g width key set within free (Blocked place) s = absurd s

@@ -7,3 +7,4 @@ pub mod AssemblyLemmas
 pub mod Refuting
 pub mod Solutions
 pub mod FindingLemmas
+pub mod ShelfLemmas

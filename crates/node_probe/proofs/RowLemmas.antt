@@ -1,8 +1,8 @@
 -- The rows of a head, one two-face after the other.
-use Rattle.std.proofs.Common.{take, ◌≡◌, ℕ, ◌+◌, ◌-◌, ◌<◌, ◌≤◌, ◌⊎◌, inl, inr, refl, sym, ap, ◌∙◌, subst, arith, List, [], ◌∷◌, ◌++◌, length, get_or, replicate, take, pos}
+use Rattle.std.proofs.Common.{take, ◌≡◌, ℕ, ◌+◌, ◌-◌, ◌<◌, ◌≤◌, ◌⊎◌, inl, inr, sym, ap, ◌∙◌, subst, arith, List, [], ◌∷◌, ◌++◌, length, get_or, replicate, take, pos}
 use Rattle.std.specs.Prelude.{All, AllPairs, Contains}
 use Rattle.std.proofs.lemmas.List.{take_more, length-take-le, length-append, get_or_append_left, get_or-replicate, length-replicate, get_or_default}
-use Rattle.std.proofs.lemmas.List.Elements.{All-append, All-nil}
+use Rattle.std.proofs.lemmas.List.Elements.{All-append}
 use Rattle.std.proofs.Math.Seq.{get_or-append_right}
 use Rattle.ntfe_model.specs.Shapes.{Shape}
 use Rattle.ntfe_model.specs.Charts.{patch_at}
@@ -26,15 +26,6 @@ replicate_only : (n f k : ℕ) → Contains (replicate n f) k → k ≡ f
 replicate_only n f k (i, l, e) = sym e ∙ get_or-replicate n i f k (let q = length-replicate n f in omega (arith, l, q))
 
 -- ---- the rows
-
-pub rows_none : (g : Shape) → AreHeadRows g [] [] []
-rows_none g = record {
-  folds = refl;
-  small = All-nil IsSmallFold;
-  count = refl;
-  owners = λ j d l. absurd (omega (arith, l));
-  rising = λ i j d l m. absurd (omega (arith, m));
-}
 
 module _ (g : Shape) (ks : List ℕ) (n : ℕ) (rs : List Fold) (faces : List ℕ) (h : AreHeadRows g ks rs faces) (last : List Fold) (item : AreItemFolds g (length ks) n last) (small : All IsSmallFold last) where
   abbrev key : List ℕ

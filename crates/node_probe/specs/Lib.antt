@@ -1,3 +1,4 @@
 pub mod Heads
 pub mod Refutations
 pub mod Findings
+pub mod Shelves

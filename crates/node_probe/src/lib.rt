@@ -6,7 +6,9 @@ mod fetching;
 mod finding;
 mod head;
 mod probing;
+mod shelf;
 mod solving;
 
 pub use finding::Finding;
 pub use probing::probe;
+pub use shelf::Shelf;

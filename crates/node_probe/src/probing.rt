@@ -1,18 +1,51 @@
 //! The probe of a key.
-ghost use Rattle.std.specs.Prelude.{◌≡◌, ◌≤◌, length, All, IfOk};
+ghost use Rattle.std.specs.Prelude.{◌≡◌, ◌≤◌, ℕ, length, All, IfOk, MatchOption};
 ghost use Rattle.ntfe_model.specs.Books.{KeepsAll};
 ghost use Rattle.ntfe_model.specs.Certificates.{IsCertificate};
 ghost use Rattle.ntfe_model.specs.Keys.{IsKey};
-ghost use Rattle.node_probe.specs.Findings.{IsFinding};
+ghost use Rattle.ntfe_model.specs.Shapes.{IsShape};
+ghost use Rattle.nogood_set.specs.Blocking.{NoneBlocks};
+ghost use Rattle.node_probe.specs.Heads.{KeepsHead};
+ghost use Rattle.node_probe.specs.Shelves.{patches};
+ghost use Rattle.node_probe.specs.Findings.{IsWithin, IsFinding};
 
 use crate::fetching::fetch_head;
 use crate::finding::Finding;
-use crate::head::head_rows;
+use crate::shelf::Shelf;
 use crate::solving::{make_room, solve_head};
 use nogood_set::NogoodSet;
 use ntfe_model::{Book, Geometry, ITEM_LIMIT, Key};
 use std::alloc::{AllocError, Global};
 use strict_solver::Tableau;
+
+/// What is found at a key without the solver. Where it is nothing, the book keeps the head's items.
+fn found_before<B: Book>(
+    geometry: &Geometry,
+    key: &Key,
+    book: &mut B,
+    set: &NogoodSet,
+) -> Result<Option<Finding>, AllocError>
+    requires geometry { IsShape geometry.now }
+    requires key { IsKey geometry.now key.now }
+    requires shape { B.shape book.old ≡ geometry.now }
+    requires set { All (IsCertificate geometry.now) set.now }
+    ensures shape { B.shape book.new ≡ B.shape book.old }
+    ensures kept { KeepsAll (B.keeps book.old) (B.keeps book.new) }
+    ensures finding { IfOk result (λ o. MatchOption o (IsWithin geometry.now key.now × NoneBlocks set.now key.now × KeepsHead (B.keeps book.new) key.now) (λ x. (width : ℕ) → IsFinding geometry.now width key.now set.now x)) }
+{
+    if !fetch_head(book, key)? {
+        return Ok(Some(Finding::End));
+    }
+    let numbers = key.0.as_slice();
+    let face = numbers.len() - 1;
+    if numbers[face] == ITEM_LIMIT {
+        return Ok(Some(Finding::Far { face: face as u32 }));
+    }
+    if let Some(place) = set.blocks(key) {
+        return Ok(Some(Finding::Blocked(place)));
+    }
+    Ok(None)
+}
 
 /// What is found at a key of the geometry: the first that holds of
 ///
@@ -24,8 +57,9 @@ use strict_solver::Tableau;
 ///   2^width in size, were too wide;
 /// - a two-face is left.
 ///
-/// The items that were looked for are kept in the book, which loses none. Where the head has more
-/// folds than the tableau has rows, a larger one takes its place.
+/// The items that were looked for are kept in the book, which loses none, and their folds on the shelf
+/// of the geometry. Where the head has more folds than the tableau has rows, a larger one takes its
+/// place.
 ///
 /// # Errors
 /// `AllocError` where memory is short.
@@ -34,6 +68,7 @@ pub fn probe<B: Book>(
     geometry: &Geometry,
     key: &Key,
     book: &mut B,
+    shelf: &mut Shelf,
     set: &NogoodSet,
     tableau: &mut Tableau,
     width: u8,
@@ -41,27 +76,21 @@ pub fn probe<B: Book>(
     requires key { IsKey geometry.now key.now }
     requires shape { B.shape book.old ≡ geometry.now }
     requires set { All (IsCertificate geometry.now) set.now }
+    requires patches { shelf.old ≡ patches geometry.now }
     requires columns { tableau.old.columns ≡ length geometry.now.points }
     requires low { 1 ≤ width }
     requires high { width ≤ 62 }
     ensures shape { B.shape book.new ≡ B.shape book.old }
     ensures kept { KeepsAll (B.keeps book.old) (B.keeps book.new) }
+    ensures patches { shelf.new ≡ shelf.old }
     ensures columns { tableau.new.columns ≡ tableau.old.columns }
     ensures finding { IfOk result (IsFinding geometry.now width key.now set.now) }
 {
     let columns = geometry.points().len() as u32;
-    if !fetch_head(book, key)? {
-        return Ok(Finding::End);
+    if let Some(finding) = found_before(geometry, key, book, set)? {
+        return Ok(finding);
     }
-    let numbers = key.0.as_slice();
-    let face = numbers.len() - 1;
-    if numbers[face] == ITEM_LIMIT {
-        return Ok(Finding::Far { face: face as u32 });
-    }
-    if let Some(place) = set.blocks(key) {
-        return Ok(Finding::Blocked(place));
-    }
-    let rows = head_rows(alloc, geometry, key, book)?;
+    let rows = shelf.head_rows(alloc, key, book)?;
     make_room(alloc, tableau, rows.folds.len() as u32, columns)?;
     solve_head(alloc, geometry, key, &rows, tableau, width)
 }

@@ -1,67 +1,23 @@
-use Rattle.std.proofs.Common.{◌≡◌, ◌≤◌, ◌∙◌, sym, ap, subst, arith, ◌-◌, ◌+◌, ℕ, List, length, get_or}
-use Rattle.std.proofs.Math.Facts.{Fits-below}
-use Rattle.std.proofs.lemmas.Result.{IfOk-weaker}
+use Rattle.std.proofs.Common.{◌≤◌, ◌∙◌, subst, arith}
 use Rattle.ntfe_model.specs.Shapes.{Shape}
-use Rattle.ntfe_model.specs.Keys.{AllItemsExist}
-use Rattle.node_probe.specs.Findings.{IsSolution, IsFinding}
+use Rattle.ntfe_model.specs.Keys.{AreHeadFolds}
+use Rattle.std.proofs.Math.Facts.{Fits-below}
 use Rattle.node_probe.proofs.Counts.{head_few}
-use Rattle.node_probe.proofs.KeyLemmas.{match_true}
-use Rattle.node_probe.proofs.FindingLemmas.{key_few, near_last, blocked_at, solution_found}
+use Rattle.node_probe.proofs.KeyLemmas.{match_some}
+use Rattle.node_probe.proofs.FindingLemmas.{key_few}
 use Rattle.node_probe.proofs.probing.probe.Goals as goal
-
-pub fetch_head-requires-clause-few : goal.fetch_head-requires-clause-few
-fetch_head-requires-clause-few g c = let k = key_few c.args.geometry.now c.points.ensures.shape c.args.key.now c.requires.key in omega (arith, k)
-
-pub overflow_cast-result : goal.overflow_cast-result
-overflow_cast-result g c =
-    let k = key_few c.args.geometry.now c.points.ensures.shape c.args.key.now c.requires.key in
-    let e = ap length (c.as_slice-numbers.ensures ∙ c.key.view_is) in
-    Fits-below tt (let r : length c.as_slice-numbers.result.now - 1 ≤ 4294967295 = omega (arith, k, e) in r)
-
-pub returns-then-numbers-face-eq-ITEM_LIMIT-clause-finding :
-    goal.returns-then-numbers-face-eq-ITEM_LIMIT-clause-finding
-returns-then-numbers-face-eq-ITEM_LIMIT-clause-finding g c =
-    let e = c.as_slice-numbers.ensures ∙ c.key.view_is in
-    let found = match_true _ _ c.in_ok-fetch_head.field-0 c.in_ok-fetch_head.ensures.answer c.if-not-branch.false in
-    let P : Shape → Type 0 = λ h. AllItemsExist h c.args.key.now in
-    let n = ap length e in
-    let s = c.requires.key.some in (
-      (ap (λ (ks : List ℕ). get_or ks (length ks - 1) 0) (sym e) ∙ c.if-numbers-face-eq-ITEM_LIMIT.true, subst P c.requires.shape found.1),
-      (let r : length c.args.key.now ≡ length c.as_slice-numbers.result.now - 1 + 1 = omega (arith, n, s) in r),
-    )
-
-pub returns-in-Some-clause-finding : goal.returns-in-Some-clause-finding
-returns-in-Some-clause-finding g c =
-    let e = c.as_slice-numbers.ensures ∙ c.key.view_is in
-    let found = match_true _ _ c.in_ok-fetch_head.field-0 c.in_ok-fetch_head.ensures.answer c.if-not-branch.false in
-    let P : Shape → Type 0 = λ h. AllItemsExist h c.args.key.now in
-    let near = near_last c.args.geometry.now c.args.key.now c.as_slice-numbers.result.now c.requires.key e c.if-numbers-face-eq-ITEM_LIMIT.false in
-    ((subst P c.requires.shape found.1, near), blocked_at c.args.geometry.now c.args.set.now c.args.key.now c.in-Some.place c.requires.set near c.in-Some.ensures)
 
 pub head_rows-requires-clause-few : goal.head_rows-requires-clause-few
 head_rows-requires-clause-few g c = let k = key_few c.args.geometry.now c.points.ensures.shape c.args.key.now c.requires.key in omega (arith, k)
 
 pub overflow_cast-len : goal.overflow_cast-len
 overflow_cast-len g c =
-    let few = head_few c.args.geometry.now c.points.ensures.shape c.args.key.now c.in_ok-rows.rows.folds.items c.requires.key.at_most c.in_ok-rows.ensures.folds in
+    let P : Shape → Type 0 = λ h. AreHeadFolds h 0 c.args.key.now c.in_ok-rows.rows.folds.items in
+    let folds = subst P (c.found_before.ensures.shape ∙ c.requires.shape) c.in_ok-rows.ensures.rows.folds in
+    let few = head_few c.args.geometry.now c.points.ensures.shape c.args.key.now c.in_ok-rows.rows.folds.items c.requires.key.at_most folds in
     let e = c.len.ensures in
     let v = c.in_ok-rows.rows.folds.ok.0 in
     Fits-below tt (let r : c.len.result ≤ 4294967295 = omega (arith, few, e, v) in r)
 
-pub solve_head-requires-clause-within : goal.solve_head-requires-clause-within
-solve_head-requires-clause-within g c =
-    let e = c.as_slice-numbers.ensures ∙ c.key.view_is in
-    let found = match_true _ _ c.in_ok-fetch_head.field-0 c.in_ok-fetch_head.ensures.answer c.if-not-branch.false in
-    let P : Shape → Type 0 = λ h. AllItemsExist h c.args.key.now in
-    (subst P c.requires.shape found.1, near_last c.args.geometry.now c.args.key.now c.as_slice-numbers.result.now c.requires.key e c.if-numbers-face-eq-ITEM_LIMIT.false)
-
-pub returns-clause-finding : goal.returns-clause-finding
-returns-clause-finding g c =
-    let h = c.args.geometry.now in
-    let key = c.args.key.now in
-    let set = c.args.set.now in
-    let e = c.as_slice-numbers.ensures ∙ c.key.view_is in
-    let found = match_true _ _ c.in_ok-fetch_head.field-0 c.in_ok-fetch_head.ensures.answer c.if-not-branch.false in
-    let P : Shape → Type 0 = λ h. AllItemsExist h key in
-    let near = near_last h key c.as_slice-numbers.result.now c.requires.key e c.if-numbers-face-eq-ITEM_LIMIT.false in
-    IfOk-weaker c.solve_head.result (IsSolution h c.args.width key) (IsFinding h c.args.width key set) (solution_found h c.args.width key set (subst P c.requires.shape found.1, near) c.in_default.ensures) c.solve_head.ensures.solution
+pub returns-in-Some-clause-finding : goal.returns-in-Some-clause-finding
+returns-in-Some-clause-finding g c = match_some _ _ c.in_ok-finding.field-0 c.in-Some.finding c.in_ok-finding.ensures.finding c.in-Some.is c.args.width

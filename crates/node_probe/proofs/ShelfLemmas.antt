@@ -1,0 +1,60 @@
+-- What is kept of the folds of a geometry's items.
+use Rattle.std.proofs.Common.{◌≡◌, ℕ, ◌+◌, ◌<◌, ◌∙◌, refl, sym, ap, subst, arith, List, [], ◌∷◌, ◌++◌, length, replicate, take, set, get_or}
+use Rattle.std.specs.Prelude.{Option, Some}
+use Rattle.std.proofs.lemmas.Option.{slice_get_read}
+use Rattle.std.proofs.lemmas.List.{set-get_or, length-map, get_or-map, take_more}
+use Rattle.ntfe_model.specs.Shapes.{Shape, no_face}
+use Rattle.ntfe_model.specs.Charts.{Patch, patch_of, patch_at}
+use Rattle.ntfe_model.specs.declared.nogood.Fold.{Fold}
+use Rattle.ntfe_model.specs.Words.{IsItem}
+use Rattle.ntfe_model.specs.Choices.{AreFolds}
+use Rattle.ntfe_model.specs.declared.triangulation.Triangulation.{Triangulation}
+use Rattle.node_probe.specs.Heads.{AreHeadRows}
+use Rattle.node_probe.proofs.RowLemmas.{rows_step}
+use Rattle.node_probe.specs.declared.head.HeadRows.{HeadRows}
+use Rattle.node_probe.specs.Shelves.{patches, IsShelved, AreShelved, AddsItem}
+
+some_once : {X : Type 0} (x y : X) → Some x ≡ Some y → x ≡ y
+some_once x y e = cc
+
+-- what stands at a place with folds, as it is read
+pub shelved_read : (h : Patch) (kept : List (Option (List Fold))) (n : ℕ) (o : Option (List Fold)) (rs : List Fold) → AreShelved h kept → n < length kept → o ≡ get_or kept n o → o ≡ Some rs → IsShelved h n rs
+shelved_read h kept n o rs a l e q = a n rs (slice_get_read kept (length kept) n o refl l e ∙ ap Some q)
+
+pub adds_item : (h g : Patch) (n face : ℕ) (old new : HeadRows) (rs lent : List Fold) → h ≡ g → lent ≡ rs → IsShelved h n rs → new.folds.items ≡ old.folds.items ++ lent → new.faces.items ≡ old.faces.items ++ replicate (length lent) face
+    → AddsItem g n face old new
+adds_item h g n face old new rs lent p e s a b = record {
+  added = rs;
+  shelved = (let P : Patch → Type 0 = λ k. IsShelved k n rs in subst P p s);
+  folds = a ∙ ap (λ qs. old.folds.items ++ qs) e;
+  faces = b ∙ ap (λ (qs : List Fold). old.faces.items ++ replicate (length qs) face) e;
+}
+
+-- ---- the patches of a geometry
+
+pub patches_count : (g : Shape) → length (patches g) ≡ length g.faces
+patches_count g = length-map g.faces (patch_of g.points)
+
+pub patch_is : (g : Shape) (f : ℕ) (d : Patch) → f < length g.faces → get_or (patches g) f d ≡ patch_at g f
+patch_is g f d l = get_or-map (patch_of g.points) g.faces f no_face d l
+
+pub patches_more : (g : Shape) (f : ℕ) (hs new : List Patch) (h : Patch) → f < length g.faces → hs ≡ take f (patches g) → h ≡ patch_at g f → new ≡ hs ++ h ∷ [] → new ≡ take (f + 1) (patches g)
+patches_more g f hs new h l e p q =
+    let c = patches_count g in
+    q ∙ (λ i. e i ++ (p ∙ sym (patch_is g f h l)) i ∷ []) ∙ sym (take_more (patches g) f h (omega (arith, l, c)))
+
+-- one more number of a key, by what is kept for it
+pub shelved_step : (g : Shape) (key numbers : List ℕ) (f n : ℕ) (h : Patch) (old new : HeadRows) → numbers ≡ key → f < length numbers → n ≡ get_or numbers f 0 → h ≡ patch_at g f → AddsItem h n f old new
+    → AreHeadRows g (take f key) old.folds.items old.faces.items → AreHeadRows g (take (f + 1) key) new.folds.items new.faces.items
+shelved_step g key numbers f n h old new e l en p a rows =
+    let m = ap length e in
+    let P : Patch → Type 0 = λ k. AreItems k in
+    rows_step g key f old.folds.items new.folds.items a.added a.added old.faces.items new.faces.items n (omega (arith, l, m)) (en ∙ ap (λ (ks : List ℕ). get_or ks f 0) e) refl a.folds a.faces
+    (subst P p (a.shelved.item, a.shelved.is_item, a.shelved.folds)) a.shelved.small rows
+  where
+    AreItems : Patch → Type 0
+    AreItems k = (x : Triangulation) × IsItem k n x × AreFolds k x a.added
+
+-- a value at its place that is what it was
+pub place_same : (xs : List Patch) (i : ℕ) (x y : Patch) → x ≡ y → y ≡ get_or xs i y → set xs i x ≡ xs
+place_same xs i x y e f = ap (λ z. set xs i z) (e ∙ f) ∙ set-get_or xs i y

@@ -1,0 +1,40 @@
+-- The folds of a geometry's items, kept by two-faces and numbers.
+use Rattle.std.specs.Prelude.{◌≡◌, ℕ, List, ◌++◌, length, map, replicate, slice_get, Option, Some, All}
+use Rattle.ntfe_model.specs.Shapes.{Shape}
+use Rattle.ntfe_model.specs.Charts.{Patch, patch_of}
+use Rattle.ntfe_model.specs.Words.{IsItem}
+use Rattle.ntfe_model.specs.Choices.{AreFolds}
+use Rattle.ntfe_model.specs.declared.triangulation.Triangulation.{Triangulation}
+use Rattle.ntfe_model.specs.declared.nogood.Fold.{Fold}
+use Rattle.fold_rows.specs.Rows.{IsSmallFold}
+use Rattle.node_probe.specs.declared.head.HeadRows.{HeadRows}
+
+-- the patches of the geometry's two-faces, in their order
+abbrev pub patches : Shape → List Patch
+patches g = map (patch_of g.points) g.faces
+
+-- the folds of the patch's item with this number
+pub record IsShelved (h : Patch) (n : ℕ) (rs : List Fold) : Type 0 where
+  pub item : Triangulation
+  pub is_item : IsItem h n item
+  pub folds : AreFolds h item rs
+  pub small : All IsSmallFold rs
+
+-- what stands at the place of a number are the folds of the item with this number
+abbrev pub AreShelved : Patch → List (Option (List Fold)) → Type 0
+AreShelved h kept = (n : ℕ) (rs : List Fold) → slice_get kept n ≡ Some (Some rs) → IsShelved h n rs
+
+-- no other folds stand there than before
+abbrev pub HasNoOthers : List (Option (List Fold)) → List (Option (List Fold)) → Type 0
+HasNoOthers old new = (n : ℕ) (rs : List Fold) → slice_get new n ≡ Some (Some rs) → slice_get old n ≡ Some (Some rs)
+
+-- folds stand at the place
+abbrev pub HasFolds : List (Option (List Fold)) → ℕ → Type 0
+HasFolds kept n = (rs : List Fold) × (slice_get kept n ≡ Some (Some rs))
+
+-- the folds of the patch's item were added, with the number of its two-face
+pub record AddsItem (h : Patch) (n face : ℕ) (old new : HeadRows) : Type 0 where
+  pub added : List Fold
+  pub shelved : IsShelved h n added
+  pub folds : new.folds.items ≡ old.folds.items ++ added
+  pub faces : new.faces.items ≡ old.faces.items ++ replicate (length added) face

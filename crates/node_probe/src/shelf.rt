@@ -1,0 +1,194 @@
+//! The folds of a geometry's items, kept.
+ghost use Rattle.std.specs.Prelude.{◌≡◌, ◌<◌, ◌≤◌, ◌^◌, length, IfOk, OnOk};
+ghost use Rattle.ntfe_model.specs.Words.{IsItem};
+ghost use Rattle.ntfe_model.specs.Charts.{patch_at};
+ghost use Rattle.ntfe_model.specs.Books.{KeepsItem};
+ghost use Rattle.ntfe_model.specs.Keys.{item_limit, IsKey};
+ghost use Rattle.node_probe.specs.Heads.{KeepsHead, AreHeadRows};
+ghost use Rattle.node_probe.specs.Shelves.{patches, AreShelved, HasNoOthers, HasFolds, AddsItem};
+
+use crate::head::{HeadRows, add_rows};
+use face_chart::Chart;
+use fold_rows::folds;
+use ntfe_model::{Book, Fold, Geometry, Key, List, Triangulation};
+use std::alloc::{AllocError, Global};
+use std::marker::Model;
+
+/// Makes the place, with nothing at it where it is new.
+fn make_place(kept: &mut Vec<Option<List<Fold>>>, place: usize) -> Result<(), AllocError>
+    requires { place < 2 ^ 32 }
+    ensures same { HasNoOthers kept.old.items kept.new.items }
+    ensures place { OnOk result (place < length kept.new.items) }
+{
+    for _size in kept.len()..place + 1 {
+        kept.push(None)?;
+    }
+    Ok(())
+}
+
+/// Keeps the folds of the item at the place of its number.
+fn keep_folds(
+    alloc: Global,
+    chart: &Chart,
+    kept: &mut Vec<Option<List<Fold>>>,
+    number: u32,
+    item: &Triangulation,
+) -> Result<(), AllocError>
+    requires item { IsItem chart.now number item.now }
+    requires shelved { AreShelved chart.now kept.old.items }
+    ensures shelved { AreShelved chart.now kept.new.items }
+    ensures folds { OnOk result (HasFolds kept.new.items number) }
+{
+    let place = number as usize;
+    make_place(kept, place)?;
+    if kept[place].is_none() {
+        kept[place] = Some(folds(alloc, chart, item)?);
+    }
+    Ok(())
+}
+
+/// A two-face with the folds of its items that were asked for, by numbers. Contracts see the patch.
+#[derive(Drop)]
+pub struct FaceShelf {
+    chart: Chart,
+    kept: Vec<Option<List<Fold>>>,
+}
+
+impl Model for FaceShelf {
+    ghost use Rattle.ntfe_model.specs.Charts.{Patch};
+    ghost use Rattle.node_probe.specs.Shelves.{AreShelved};
+
+    ghost Value = { Patch };
+
+    ghost view = { λ s. s.chart };
+
+    ghost invariant = { λ s. AreShelved s.chart s.kept.items };
+}
+
+impl FaceShelf {
+    /// A two-face with no folds yet.
+    pub fn new(alloc: Global, chart: Chart) -> FaceShelf
+        ensures { result ≡ chart }
+    {
+        FaceShelf {
+            chart,
+            kept: Vec::new(alloc),
+        }
+    }
+
+    /// Adds the folds of an item of the two-face, which has this number in the geometry.
+    pub fn add_folds(
+        &mut self,
+        alloc: Global,
+        face: u32,
+        number: u32,
+        item: &Triangulation,
+        rows: &mut HeadRows,
+    ) -> Result<(), AllocError>
+        requires { IsItem self.old number item.now }
+        ensures patch { self.new ≡ self.old }
+        ensures rows { OnOk result (AddsItem self.old number face rows.old rows.new) }
+    {
+        keep_folds(alloc, &self.chart, &mut self.kept, number, item)?;
+        let folds = self.kept[number as usize].as_ref().unwrap();
+        add_rows(rows, face, folds.as_slice())?;
+        Ok(())
+    }
+}
+
+/// Adds the folds of an item that the book keeps.
+fn add_kept<B: Book>(
+    alloc: Global,
+    shelf: &mut FaceShelf,
+    book: &B,
+    face: u32,
+    number: u32,
+    rows: &mut HeadRows,
+) -> Result<(), AllocError>
+    requires face { face < length (B.shape book.now).faces }
+    requires patch { shelf.old ≡ patch_at (B.shape book.now) face }
+    requires number { number ≤ item_limit (B.shape book.now) }
+    requires kept { KeepsItem (B.keeps book.now) face number }
+    ensures patch { shelf.new ≡ shelf.old }
+    ensures rows { OnOk result (AddsItem shelf.old number face rows.old rows.new) }
+{
+    let item = book.kept(face, number).unwrap();
+    shelf.add_folds(alloc, face, number, item, rows)
+}
+
+/// The folds of the head's items, which the book keeps.
+fn shelved_rows<B: Book>(
+    alloc: Global,
+    shelves: &mut Vec<FaceShelf>,
+    key: &Key,
+    book: &B,
+) -> Result<HeadRows, AllocError>
+    requires patches { shelves.old.items ≡ patches (B.shape book.now) }
+    requires key { IsKey (B.shape book.now) key.now }
+    requires few { length key.now < 2 ^ 32 }
+    requires kept { KeepsHead (B.keeps book.now) key.now }
+    ensures patches { shelves.new.items ≡ shelves.old.items }
+    ensures rows { IfOk result (λ h. AreHeadRows (B.shape book.now) key.now h.folds.items h.faces.items) }
+{
+    let numbers = key.0.as_slice();
+    let mut rows = HeadRows {
+        folds: Vec::new(alloc),
+        faces: Vec::new(alloc),
+    };
+    for face in 0..numbers.len() {
+        let shelf = &mut shelves[face];
+        add_kept(alloc, shelf, book, face as u32, numbers[face], &mut rows)?;
+    }
+    Ok(rows)
+}
+
+/// The charts of a geometry's two-faces, with the folds of their items that were asked for. Contracts
+/// see the patches.
+#[derive(Drop)]
+pub struct Shelf {
+    faces: Vec<FaceShelf>,
+}
+
+impl Model for Shelf {
+    ghost use Rattle.std.specs.Prelude.{List};
+    ghost use Rattle.ntfe_model.specs.Charts.{Patch};
+
+    ghost Value = { List Patch };
+
+    ghost view = { λ s. s.faces.items };
+}
+
+impl Shelf {
+    /// The shelf of a geometry, with no folds yet.
+    ///
+    /// # Errors
+    /// `AllocError` where memory is short.
+    pub fn new(alloc: Global, geometry: &Geometry) -> Result<Shelf, AllocError>
+        ensures { IfOk result (λ s. s ≡ patches geometry.now) }
+    {
+        let count = geometry.faces().len();
+        let mut faces = Vec::with_capacity(alloc, count)?;
+        for face in 0..count {
+            let chart = face_chart::chart(alloc, geometry, face as u32)?;
+            faces.push(FaceShelf::new(alloc, chart))?;
+        }
+        Ok(Shelf { faces })
+    }
+
+    /// The folds of the head's items, which the book keeps.
+    pub(crate) fn head_rows<B: Book>(
+        &mut self,
+        alloc: Global,
+        key: &Key,
+        book: &B,
+    ) -> Result<HeadRows, AllocError>
+        requires patches { self.old ≡ patches (B.shape book.now) }
+        requires key { IsKey (B.shape book.now) key.now }
+        requires few { length key.now < 2 ^ 32 }
+        requires kept { KeepsHead (B.keeps book.now) key.now }
+        ensures patches { self.new ≡ self.old }
+        ensures rows { IfOk result (λ h. AreHeadRows (B.shape book.now) key.now h.folds.items h.faces.items) }
+    {
+        shelved_rows(alloc, &mut self.faces, key, book)
+    }
+}
