@@ -109,10 +109,10 @@ fn are_compatible(chart: &Chart, t: &Triangle, u: &Triangle) -> bool
     ensures when_true { result ≡ true → AreCompatible chart.now t.now u.now }
     ensures when_false { result ≡ false → ¬ (AreCompatible chart.now t.now u.now) }
 {
-    if is_beyond_side(chart, t, u) {
+    if is_beyond_side(chart, u, t) {
         return true;
     }
-    if is_beyond_side(chart, u, t) {
+    if is_beyond_side(chart, t, u) {
         return true;
     }
     if has_conflict(chart, t.a, t.b, u) {

@@ -11,8 +11,8 @@ not_false : (b : Bool) → not b ≡ false → b ≡ true
 not_false true e = refl
 not_false false e = cc
 
-pub returns-then-is_beyond_side-2-clause-when_true : goal.returns-then-is_beyond_side-2-clause-when_true
-returns-then-is_beyond_side-2-clause-when_true c = λ e. compatible_back c.args.chart.now c.args.t.now c.args.u.now (c.is_beyond_side-2.ensures c.if-is_beyond_side-2.true)
+pub returns-then-is_beyond_side-clause-when_true : goal.returns-then-is_beyond_side-clause-when_true
+returns-then-is_beyond_side-clause-when_true c = λ e. compatible_back c.args.chart.now c.args.t.now c.args.u.now (c.is_beyond_side.ensures c.if-is_beyond_side.true)
 
 pub returns-then-has_conflict-clause-when_false : goal.returns-then-has_conflict-clause-when_false
 returns-then-has_conflict-clause-when_false c =
