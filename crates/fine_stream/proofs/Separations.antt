@@ -1,7 +1,7 @@
 -- A triple beyond a side of another one is compatible with it.
-use Rattle.std.proofs.Common.{◌≡◌, ◌≢◌, ℕ, zero, suc, ◌-◌, ◌<◌, ◌≤◌, ◌⊎◌, inl, inr, ⊎_elim, refl, sym, ap, ◌∙◌, subst, arith, ℤ, pos, negsuc, ◌+ℤ◌, ◌-ℤ◌, ◌*ℤ◌, ◌<ℤ◌, ◌≤ℤ◌}
+use Rattle.std.proofs.Common.{◌≡◌, ◌≢◌, ℕ, zero, suc, ◌-◌, ◌≤◌, ◌⊎◌, inl, inr, ⊎_elim, refl, sym, ap, ◌∙◌, subst, arith, ℤ, pos, negsuc, ◌+ℤ◌, ◌-ℤ◌, ◌*ℤ◌, ◌<ℤ◌, ◌≤ℤ◌}
 use Rattle.std.proofs.lemmas.Int.{ints}
-use Rattle.ntfe_nums.specs.Vectors.{Vector, area, sign}
+use Rattle.ntfe_nums.specs.Vectors.{sign}
 use Rattle.ntfe_model.specs.Charts.{Patch, axes, place, turn, IsUnit}
 use Rattle.ntfe_model.specs.Triangulations.{HasSide, HaveSameEnds, DoCross, IsRotationOf}
 use Rattle.ntfe_model.specs.declared.triangle.Triangle.{Triangle}
@@ -11,7 +11,7 @@ use Rattle.face_chart.proofs.UnitTriples.{area_of, unit_area}
 use Rattle.face_chart.proofs.Triples.{third_point, corner_next, corner_side}
 use Rattle.face_chart.proofs.Walk.{corner_sides}
 use Rattle.face_chart.proofs.Folds.{unit_corner}
-use Rattle.fine_stream.specs.Paths.{AreOpposite, IsUnitSide, IsBeyond, AreInConflict, AreCompatible}
+use Rattle.fine_stream.specs.Paths.{AreOpposite, IsBeyond, AreInConflict, AreCompatible}
 use Rattle.fine_stream.proofs.Crosses.{crossing_turns, cross_back, zero_first, zero_second, meet_area, first_weight, last_weight, only_factor}
 use Rattle.fine_stream.proofs.Parts.{unit_side, each_side}
 
@@ -150,7 +150,7 @@ module _ (h : Patch) (apart : AreApart h) (t u : Triangle) (x y z : ℕ) (corner
     apart = λ p q r s sp sr k.
         let o = corner_sides t x y z p q corners sp in
         ⊎_elim (λ e. shared p q o (let A : ℕ → Type 0 = λ i. HasSide u i s in let B : ℕ → Type 0 = λ j. HasSide u p j in subst B (sym e.1) (subst A (sym e.0) sr)))
-        (λ e. crossed p q r s sp o sr e.0 e.1) k
+        (λ e. crossed p q r s sp o sr e.0 e.1) k;
   }
 
 -- compatible either way

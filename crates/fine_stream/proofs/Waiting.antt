@@ -1,5 +1,5 @@
 -- What waits on a walk of the word, and that triples are a fine triangulation where nothing waits.
-use Rattle.std.proofs.Common.{◌≡◌, ◌≢◌, ℕ, ◌⊎◌, inl, inr, ⊎_elim, Bool, true, false, refl, sym, ap, ◌∙◌, subst, arith, List, [], ◌∷◌, ◌++◌, append_assoc, append-nil, ℤ, pos, negsuc, ◌<ℤ◌, neg_ℤ}
+use Rattle.std.proofs.Common.{◌≡◌, ◌≢◌, ℕ, ◌⊎◌, inl, inr, ⊎_elim, Bool, true, false, refl, sym, ap, ◌∙◌, subst, arith, List, [], ◌∷◌, ◌++◌, append_assoc, append-nil, ℤ, pos, ◌<ℤ◌, neg_ℤ}
 use Rattle.std.specs.Prelude.{All, AllPairs, Contains}
 use Rattle.std.specs.List.{list_any}
 use Rattle.std.proofs.lemmas.Int.{ints}
@@ -20,7 +20,7 @@ use Rattle.face_chart.proofs.Walk.{any_contains, after_keeps, after_only, after_
 use Rattle.face_chart.proofs.WordExists.{contains_any, triangulation_apart}
 use Rattle.face_chart.proofs.Folds.{unit_three}
 use Rattle.face_chart.proofs.ItemLemmas.{steps_fixed}
-use Rattle.fine_stream.specs.Paths.{AreOpposite, AreCompatible, IsPart, Completes}
+use Rattle.fine_stream.specs.Paths.{AreCompatible, IsPart, Completes}
 use Rattle.fine_stream.proofs.Crosses.{crossing_turns, cross_back, zero_first, zero_second}
 use Rattle.fine_stream.proofs.Parts.{unit_side, part_left, single_contains}
 use Rattle.fine_stream.proofs.Searches.{closed, fits_unit}
