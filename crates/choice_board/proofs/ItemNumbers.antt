@@ -1,18 +1,14 @@
 -- Below a number whose item does not exist there is no choice.
-use Rattle.std.proofs.Common.{◌≡◌, ◌∙◌, sym, ap, subst, ◌⊎◌, ⊎_elim, ℕ, ◌-◌, ◌<◌, ◌≤◌, List, length, take, drop, get_or, arith}
-use Rattle.std.specs.Prelude.{All, AllPairs, Contains, slice_index}
-use Rattle.std.proofs.lemmas.List.{take-append-drop, get_or-take, length-take-le, get_or_default}
-use Rattle.ntfe_model.specs.Lists.{IsBelow}
+use Rattle.std.proofs.Common.{◌≡◌, ◌∙◌, sym, ap, subst, ◌⊎◌, ⊎_elim, ℕ, ◌-◌, ◌<◌, ◌≤◌, List, length, arith}
+use Rattle.std.specs.Prelude.{slice_index}
+use Rattle.std.proofs.lemmas.List.{get_or-take}
 use Rattle.ntfe_model.specs.Shapes.{Shape}
-use Rattle.ntfe_model.specs.Charts.{Patch, patch_at}
+use Rattle.ntfe_model.specs.Charts.{patch_at}
 use Rattle.ntfe_model.specs.Choices.{IsChoice}
 use Rattle.ntfe_model.specs.Keys.{IsEnd, last_number}
-use Rattle.ntfe_model.specs.Words.{IsTriangulation, IsItem, HasItem, HasItemAt}
-use Rattle.ntfe_model.specs.declared.triangulation.Triangulation.{Triangulation}
+use Rattle.ntfe_model.specs.Words.{HasItem}
 use Rattle.ntfe_model.proofs.Items.{lesser_items}
 use Rattle.choice_board.specs.Places.{IsIn, cone}
-use Rattle.choice_board.proofs.KeyOrder.{not_below_itself}
-use Rattle.choice_board.proofs.RowLemmas.{pairs_first}
 
 -- no choice begins with a number whose item does not exist, or goes on from it
 pub end_has_none : (g : Shape) (key c : List ℕ) → 1 ≤ length key → length key ≤ length g.faces → IsEnd g key → IsChoice g c → IsIn (length g.faces) (cone key) c → ⊥

@@ -52,7 +52,7 @@ mixed_area q k l a b n s =
     (times (minus (var 5) (var 3)) (plus (times (minus (var 0) (var 1)) (var 6)) (times (var 1) (var 8)))))
     (times (var 0) (minus (times (minus (var 4) (var 2)) (var 3)) (times (minus (var 5) (var 3)) (var 2))))) refl
 
-meet_area : (q : ℕ × ℕ) (k l a b c d : Vector) (n s t : ℕ) → mixed n s a b ≡ mixed n t c d
+pub meet_area : (q : ℕ × ℕ) (k l a b c d : Vector) (n s t : ℕ) → mixed n s a b ≡ mixed n t c d
     → (pos n -ℤ pos s) *ℤ area q k l a +ℤ pos s *ℤ area q k l b ≡ (pos n -ℤ pos t) *ℤ area q k l c +ℤ pos t *ℤ area q k l d
 meet_area q k l a b c d n s t e =
     mixed_area q k l a b (pos n) (pos s)
@@ -205,13 +205,22 @@ negative_is (pos zero) e = absurd (omega (arith, ints, e))
 negative_is (pos (suc i)) e = absurd (omega (arith, ints, e))
 negative_is (negsuc i) e = (i, refl)
 
+-- no turn on a line is one of two opposite ones
+pub zero_first : (x y : ℤ) → x ≡ pos 0 → AreOpposite x y → ⊥
+zero_first x y e (inl p) = let f : pos 0 ≡ pos 1 = sym e ∙ p.0 in absurd (omega (arith, ints, f))
+zero_first x y e (inr p) = let f : pos 0 ≡ negsuc 0 = sym e ∙ p.0 in absurd (omega (arith, ints, f))
+
+pub zero_second : (x y : ℤ) → y ≡ pos 0 → AreOpposite x y → ⊥
+zero_second x y e (inl p) = let f : pos 0 ≡ negsuc 0 = sym e ∙ p.1 in absurd (omega (arith, ints, f))
+zero_second x y e (inr p) = let f : pos 0 ≡ pos 1 = sym e ∙ p.1 in absurd (omega (arith, ints, f))
+
 -- ---- ends
 
-first_weight : (n x y : ℤ) → (n -ℤ pos 0) *ℤ x +ℤ pos 0 *ℤ y ≡ n *ℤ x
+pub first_weight : (n x y : ℤ) → (n -ℤ pos 0) *ℤ x +ℤ pos 0 *ℤ y ≡ n *ℤ x
 first_weight n x y =
     ring (n ∷ x ∷ y ∷ []) (plus (times (minus (var 0) (num (pos 0))) (var 1)) (times (num (pos 0)) (var 2))) (times (var 0) (var 1)) refl
 
-last_weight : (n x y : ℤ) → (n -ℤ n) *ℤ x +ℤ n *ℤ y ≡ n *ℤ y
+pub last_weight : (n x y : ℤ) → (n -ℤ n) *ℤ x +ℤ n *ℤ y ≡ n *ℤ y
 last_weight n x y =
     ring (n ∷ x ∷ y ∷ []) (plus (times (minus (var 0) (var 0)) (var 1)) (times (var 0) (var 2))) (times (var 0) (var 2)) refl
 
@@ -251,7 +260,7 @@ end_of : (h : Patch) (a b e p : ℕ) (s t : ℤ) → place h p ≡ reached (plac
 end_of h a b e p s t r (inl x) y = inl (r ∙ (λ i. reached (place h a) (place h b) (place h e) (x i) (y i)) ∙ reached_first (place h a) (place h b) (place h e))
 end_of h a b e p s t r (inr x) y = inr (r ∙ (λ i. reached (place h a) (place h b) (place h e) (x i) (y i)) ∙ reached_second (place h a) (place h b) (place h e))
 
-only_factor : (n : ℕ) (x : ℤ) → 0 < n → pos n *ℤ x ≡ pos 0 → x ≡ pos 0
+pub only_factor : (n : ℕ) (x : ℤ) → 0 < n → pos n *ℤ x ≡ pos 0 → x ≡ pos 0
 only_factor n x h e = ⊎_elim (λ p. absurd (omega (arith, ints, p))) (λ p. p) (zero_factor (pos n) x e)
 
 module _ (h : Patch) (apart : AreApart h) (a b e c d f : ℕ) (u : IsUnit h a b e) (v : IsUnit h c d f) where

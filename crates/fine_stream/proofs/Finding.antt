@@ -1,8 +1,9 @@
 -- What the calls of the search add to the path.
-use Rattle.std.proofs.Common.{◌≡◌, ℕ, ◌+◌, ◌-◌, ◌*◌, ◌<◌, ◌≤◌, Bool, true, false, refl, sym, ap, ◌∙◌, subst, arith, List, [], ◌∷◌, ◌++◌, take, drop, length, get_or, Option, Some, None, append_assoc, append-nil, ◌==◌}
+use Rattle.std.proofs.Common.{◌≡◌, ℕ, zero, suc, ◌+◌, ◌-◌, ◌*◌, ◌<◌, ◌≤◌, Bool, true, false, refl, sym, ap, ◌∙◌, subst, arith, List, [], ◌∷◌, ◌++◌, take, drop, length, get_or, Option, Some, None, append_assoc, append-nil, ◌==◌}
 use Rattle.std.specs.Prelude.{All, AllPairs, MatchBool}
+use Rattle.std.proofs.Math.Seq.{drop-append_seam, take-append_seam, drop-length}
 use Rattle.std.proofs.lemmas.Bool.Decides.{nat_tests}
-use Rattle.std.proofs.lemmas.List.{take_all}
+use Rattle.std.proofs.lemmas.List.{take_all, get_or_read}
 use Rattle.std.proofs.lemmas.List.Elements.{All-contains, All-more, All-same, Contains-get_or}
 use Rattle.ntfe_model.specs.Lists.{IsBelow}
 use Rattle.ntfe_model.specs.Charts.{Patch, IsOf, spot_numbers}
@@ -35,37 +36,79 @@ abbrev pub rest_of : List (ℕ × ℕ) → List (ℕ × ℕ)
 rest_of [] = []
 rest_of (e ∷ steps) = steps
 
+-- what holds of triples and steps holds of the same ones
+carried : (F : List Triangle → List (ℕ × ℕ) → Type 0) (us vs : List Triangle) (es fs : List (ℕ × ℕ)) → us ≡ vs → es ≡ fs → F us es → F vs fs
+carried F us vs es fs p q x = let A : List Triangle → Type 0 = λ ws. F ws es in let B : List (ℕ × ℕ) → Type 0 = λ gs. F vs gs in subst B q (subst A p x)
+
 -- ---- all numbers in turn
 
 -- the numbers before place i lead to no word, and the path is as it was
 pub record IsTurning (h : Patch) (steps : List (ℕ × ℕ)) (limit : Option ℕ) (ks : List ℕ) (i : ℕ) (before now : Path) : Type 0 where
   pub words : now.word.items ≡ before.word.items
   pub all : now.triangles.items ≡ before.triangles.items
+  pub waiting : now.steps.items ≡ before.steps.items
   pub none : All (λ d. HasNone h before.triangles.items steps (BeginsWith limit d)) (take i ks)
 
-pub adds_empty : (h : Patch) (steps : List (ℕ × ℕ)) (limit : Option ℕ) (before : Path) → true ≡ (length steps == 0) → IsPart h before.triangles.items
+-- the steps from a place on
+pub none_left : (steps : List (ℕ × ℕ)) (n : ℕ) → n ≡ length steps → drop n steps ≡ []
+none_left steps n e = ap (λ k. drop k steps) e ∙ drop-length steps
+
+pub some_left : (steps : List (ℕ × ℕ)) (n : ℕ) → n < length steps → 0 < length (drop n steps)
+some_left [] n l = absurd (omega (arith, l))
+some_left (x ∷ steps) zero l = omega arith
+some_left (x ∷ steps) (suc n) l = some_left steps n (omega arith)
+
+pub first_left : (steps : List (ℕ × ℕ)) (n : ℕ) → get_or steps n (0, 0) ≡ first_step (drop n steps)
+first_left [] zero = refl
+first_left [] (suc n) = refl
+first_left (x ∷ steps) zero = refl
+first_left (x ∷ steps) (suc n) = first_left steps n
+
+pub written_left : (steps : List (ℕ × ℕ)) (n c : ℕ) (t : Triangle) (e : ℕ × ℕ) → n < length steps → e ≡ get_or steps n e → t ≡ written e.0 e.1 c
+    → t ≡ written (first_step (drop n steps)).0 (first_step (drop n steps)).1 c
+written_left steps n c t e l r w = w ∙ ap (λ p. written p.0 p.1 c) (get_or_read steps n e l r (0, 0) ∙ first_left steps n)
+
+drop_front : (es fs : List (ℕ × ℕ)) (n : ℕ) → n ≡ length es → drop n (es ++ fs) ≡ fs
+drop_front es fs n e = ap (λ k. drop k (es ++ fs)) e ∙ drop-append_seam es fs
+
+take_front : (es fs : List (ℕ × ℕ)) (n : ℕ) → n ≡ length es → take n (es ++ fs) ≡ es
+take_front es fs n e = ap (λ k. take k (es ++ fs)) e ∙ take-append_seam es fs
+
+pub within_longer : (es fs gs : List (ℕ × ℕ)) (n : ℕ) → n ≡ length es → gs ≡ es ++ fs → n ≤ length gs
+within_longer es fs gs n e f = (let l = ap length f in let m = longer es in omega arith)
+  where
+    longer : (hs : List (ℕ × ℕ)) → length hs ≤ length (hs ++ fs)
+    longer [] = omega arith
+    longer (x ∷ hs) = let r = longer hs in omega arith
+
+pub adds_empty : (h : Patch) (steps : List (ℕ × ℕ)) (limit : Option ℕ) (before : Path) → steps ≡ [] → IsPart h before.triangles.items
     → Adds h steps (BeginsAfter limit) before before
-adds_empty h [] limit before e p = record {
-  word = [];
-  triangles = [];
-  is = first_empty h before.triangles.items (BeginsAfter limit) p tt;
-  words = sym (append-nil before.word.items);
-  all = sym (append-nil before.triangles.items);
-}
-adds_empty h (s ∷ steps) limit before e p = absurd (let n = none_long (length (s ∷ steps)) e in omega arith)
+adds_empty h steps limit before e p =
+    let P : List (ℕ × ℕ) → Type 0 = λ es. Adds h es (BeginsAfter limit) before before in
+    subst P (sym e) (record {
+      word = [];
+      triangles = [];
+      is = first_empty h before.triangles.items (BeginsAfter limit) p tt;
+      words = sym (append-nil before.word.items);
+      all = sym (append-nil before.triangles.items);
+    })
 
 -- a word that begins with the number at place i
-pub adds_turn : (h : Patch) (steps : List (ℕ × ℕ)) (limit : Option ℕ) (ks : List ℕ) (i : ℕ) (before now after : Path) → 0 < length steps → ks ≡ spot_numbers h → AllPairs (λ j k. j < k) ks
-    → i < length ks → IsTurning h steps limit ks i before now → Adds h steps (BeginsWith limit (get_or ks i 0)) now after → Adds h steps (BeginsAfter limit) before after
-adds_turn h [] limit ks i before now after s same o l t a = absurd (omega (arith, s))
-adds_turn h ((x, y) ∷ fs) limit ks i before now after s same o l t a = record {
-  word = a.word;
-  triangles = a.triangles;
-  is = let P : List Triangle → Type 0 = λ us. IsFirst h us ((x, y) ∷ fs) (BeginsWith limit (get_or ks i 0)) a.word a.triangles in
-      turn_found h before.triangles.items x y fs limit ks i (get_or ks i 0) a.word a.triangles same o l refl t.none (subst P t.all a.is);
-  words = a.words ∙ ap (λ w. w ++ a.word) t.words;
-  all = a.all ∙ ap (λ us. us ++ a.triangles) t.all;
-}
+pub adds_turn : (h : Patch) (steps es : List (ℕ × ℕ)) (limit : Option ℕ) (ks : List ℕ) (i : ℕ) (before now after : Path) → 0 < length steps → es ≡ steps → ks ≡ spot_numbers h → AllPairs (λ j k. j < k) ks
+    → i < length ks → IsTurning h steps limit ks i before now → Adds h es (BeginsWith limit (get_or ks i 0)) now after → Adds h steps (BeginsAfter limit) before after
+adds_turn h steps es limit ks i before now after s e same o l t a =
+    let P : List (ℕ × ℕ) → Type 0 = λ fs. Adds h fs (BeginsWith limit (get_or ks i 0)) now after in by steps s t (subst P e a)
+  where
+    by : (steps : List (ℕ × ℕ)) → 0 < length steps → IsTurning h steps limit ks i before now → Adds h steps (BeginsWith limit (get_or ks i 0)) now after → Adds h steps (BeginsAfter limit) before after
+    by [] s t a = absurd (omega (arith, s))
+    by ((x, y) ∷ fs) s t a = record {
+      word = a.word;
+      triangles = a.triangles;
+      is = let P : List Triangle → Type 0 = λ us. IsFirst h us ((x, y) ∷ fs) (BeginsWith limit (get_or ks i 0)) a.word a.triangles in
+          turn_found h before.triangles.items x y fs limit ks i (get_or ks i 0) a.word a.triangles same o l refl t.none (subst P t.all a.is);
+      words = a.words ∙ ap (λ w. w ++ a.word) t.words;
+      all = a.all ∙ ap (λ us. us ++ a.triangles) t.all;
+    }
 
 pub none_turn : (h : Patch) (steps : List (ℕ × ℕ)) (limit : Option ℕ) (ks : List ℕ) (i : ℕ) (before now : Path) → 0 < length steps → ks ≡ spot_numbers h → length ks ≤ i
     → IsTurning h steps limit ks i before now → AddsNone h steps (BeginsAfter limit) before now
@@ -75,15 +118,17 @@ none_turn h ((x, y) ∷ fs) limit ks i before now s same l t = record {
       (All-same (λ d. HasNone h before.triangles.items ((x, y) ∷ fs) (BeginsWith limit d)) ks (take i ks) (sym (take_all i ks l)) t.none);
   words = t.words;
   all = t.all;
+  waiting = t.waiting;
 }
 
-pub turning_more : (h : Patch) (steps : List (ℕ × ℕ)) (limit : Option ℕ) (ks : List ℕ) (i : ℕ) (before now after : Path) → i < length ks → IsTurning h steps limit ks i before now
-    → AddsNone h steps (BeginsWith limit (get_or ks i 0)) now after → IsTurning h steps limit ks (i + 1) before after
-turning_more h steps limit ks i before now after l t a = record {
+pub turning_more : (h : Patch) (steps es : List (ℕ × ℕ)) (limit : Option ℕ) (ks : List ℕ) (i : ℕ) (before now after : Path) → es ≡ steps → i < length ks → IsTurning h steps limit ks i before now
+    → AddsNone h es (BeginsWith limit (get_or ks i 0)) now after → IsTurning h steps limit ks (i + 1) before after
+turning_more h steps es limit ks i before now after e l t a = record {
   words = a.words ∙ t.words;
   all = a.all ∙ t.all;
+  waiting = a.waiting ∙ t.waiting;
   none = All-more (λ d. HasNone h before.triangles.items steps (BeginsWith limit d)) ks i 0 l t.none
-      (let P : List Triangle → Type 0 = λ us. HasNone h us steps (BeginsWith limit (get_or ks i 0)) in subst P t.all a.none);
+      (carried (λ us fs. HasNone h us fs (BeginsWith limit (get_or ks i 0))) now.triangles.items before.triangles.items es steps t.all e a.none);
 }
 
 -- ---- one number
@@ -102,10 +147,11 @@ adds_unfit h ((a, b) ∷ fs) limit c t before s e n = record {
   none = none_fitting h before.triangles.items a b c fs limit (λ p. n (let P : Triangle → Type 0 = λ u. IsPart h (before.triangles.items ++ u ∷ []) in subst P (sym e) p));
   words = refl;
   all = refl;
+  waiting = refl;
 }
 
 pub adds_early : (h : Patch) (steps : List (ℕ × ℕ)) (limit : Option ℕ) (c : ℕ) (before : Path) → ¬ (IsAfter limit c) → AddsNone h steps (BeginsWith limit c) before before
-adds_early h steps limit c before n = record { none = none_after h before.triangles.items steps limit c n; words = refl; all = refl }
+adds_early h steps limit c before n = record { none = none_after h before.triangles.items steps limit c n; words = refl; all = refl; waiting = refl }
 
 -- the path goes on by one triangle, and these steps wait then
 pub record IsStepOn (h : Patch) (steps next : List (ℕ × ℕ)) (c : ℕ) (before now : Path) : Type 0 where
@@ -113,17 +159,22 @@ pub record IsStepOn (h : Patch) (steps next : List (ℕ × ℕ)) (c : ℕ) (befo
   pub some : 0 < length steps
   pub words : now.word.items ≡ before.word.items ++ c ∷ []
   pub all : now.triangles.items ≡ before.triangles.items ++ written (first_step steps).0 (first_step steps).1 c ∷ []
+  pub waiting : now.steps.items ≡ before.steps.items ++ next
 
-pub step_on : (h : Patch) (steps next : List (ℕ × ℕ)) (c : ℕ) (t : Triangle) (before now : Path) → 0 < length steps
-    → ((a b : ℕ) (fs : List (ℕ × ℕ)) → steps ≡ (a, b) ∷ fs → next ≡ closed a b c fs) → t ≡ written (first_step steps).0 (first_step steps).1 c
-    → now.word.items ≡ before.word.items ++ c ∷ [] → now.triangles.items ≡ before.triangles.items ++ t ∷ [] → IsStepOn h steps next c before now
-step_on h [] next c t before now s f e w a = absurd (omega (arith, s))
-step_on h ((x, y) ∷ fs) next c t before now s f e w a = record {
-  front = f x y fs refl;
-  some = s;
-  words = w;
-  all = a ∙ ap (λ u. before.triangles.items ++ u ∷ []) e;
-}
+pub step_on : (h : Patch) (steps : List (ℕ × ℕ)) (n c : ℕ) (t : Triangle) (before now : Path) → 0 < length steps → n ≡ length before.steps.items
+    → ((a b : ℕ) (fs : List (ℕ × ℕ)) → steps ≡ (a, b) ∷ fs → now.steps.items ≡ before.steps.items ++ closed a b c fs) → t ≡ written (first_step steps).0 (first_step steps).1 c
+    → now.word.items ≡ before.word.items ++ c ∷ [] → now.triangles.items ≡ before.triangles.items ++ t ∷ [] → IsStepOn h steps (drop n now.steps.items) c before now
+step_on h [] n c t before now s l f e w a = absurd (omega (arith, s))
+step_on h ((x, y) ∷ fs) n c t before now s l f e w a =
+    let g = f x y fs refl in
+    let front : drop n now.steps.items ≡ closed x y c fs = ap (drop n) g ∙ drop_front before.steps.items (closed x y c fs) n l in
+    record {
+      front = front;
+      some = s;
+      words = w;
+      all = a ∙ ap (λ u. before.triangles.items ++ u ∷ []) e;
+      waiting = g ∙ ap (λ es. before.steps.items ++ es) (sym front);
+    }
 
 pub step_part : (h : Patch) (steps next : List (ℕ × ℕ)) (c : ℕ) (t : Triangle) (before now : Path) → IsStepOn h steps next c before now
     → t ≡ written (first_step steps).0 (first_step steps).1 c → IsPart h (before.triangles.items ++ t ∷ []) → IsPart h now.triangles.items
@@ -133,10 +184,6 @@ step_part h steps next c t before now k e p =
 pub step_points : (h : Patch) (steps next : List (ℕ × ℕ)) (c : ℕ) (before now : Path) → IsStepOn h steps next c before now → AreOf h steps → IsOf h c → AreOf h next
 step_points h [] next c before now k all o = absurd (let s = k.some in omega arith)
 step_points h ((x, y) ∷ fs) next c before now k all o = let P : List (ℕ × ℕ) → Type 0 = λ es. AreOf h es in subst P (sym k.front) (closed_of h x y c fs all o)
-
--- what holds of the next steps and the longer path
-carried : (F : List Triangle → List (ℕ × ℕ) → Type 0) (us vs : List Triangle) (es fs : List (ℕ × ℕ)) → us ≡ vs → es ≡ fs → F us es → F vs fs
-carried F us vs es fs p q x = let A : List Triangle → Type 0 = λ ws. F ws es in let B : List (ℕ × ℕ) → Type 0 = λ gs. F vs gs in subst B q (subst A p x)
 
 words_on : (w v x y : List ℕ) (c : ℕ) → y ≡ w ++ c ∷ [] → x ≡ y ++ v → x ≡ w ++ c ∷ v
 words_on w v x y c e f = f ∙ ap (λ z. z ++ v) e ∙ append_assoc w (c ∷ []) v
@@ -156,26 +203,32 @@ step_found h ((x, y) ∷ fs) next limit c before now after k l a = record {
   all = triangles_on before.triangles.items a.triangles after.triangles.items now.triangles.items (written x y c) k.all a.all;
 }
 
--- the last step is taken back
-pub record IsBack (now after : Path) : Type 0 where
+-- the last step is taken back, and all but n of the waiting steps
+pub record IsBack (n : ℕ) (now after : Path) : Type 0 where
   pub word : (word : List ℕ) (c : ℕ) → now.word.items ≡ word ++ c ∷ [] → after.word.items ≡ word
   pub triangles : (ts : List Triangle) (t : Triangle) → now.triangles.items ≡ ts ++ t ∷ [] → after.triangles.items ≡ ts
+  pub steps : after.steps.items ≡ take n now.steps.items
 
-pub step_none : (h : Patch) (steps next : List (ℕ × ℕ)) (limit : Option ℕ) (c : ℕ) (before now then after : Path) → IsStepOn h steps next c before now
-    → AddsNone h next (BeginsAfter None) now then → IsBack then after → AddsNone h steps (BeginsWith limit c) before after
-step_none h [] next limit c before now then after k a b = absurd (let s = k.some in omega arith)
-step_none h ((x, y) ∷ fs) next limit c before now then after k a b = record {
+back_steps : (h : Patch) (steps next : List (ℕ × ℕ)) (c n : ℕ) (before now later after : Path) → IsStepOn h steps next c before now → n ≡ length before.steps.items → later.steps.items ≡ now.steps.items
+    → IsBack n later after → after.steps.items ≡ before.steps.items
+back_steps h steps next c n before now later after k l e b = b.steps ∙ ap (take n) (e ∙ k.waiting) ∙ take_front before.steps.items next n l
+
+pub step_none : (h : Patch) (steps next : List (ℕ × ℕ)) (limit : Option ℕ) (c n : ℕ) (before now later after : Path) → IsStepOn h steps next c before now → n ≡ length before.steps.items
+    → AddsNone h next (BeginsAfter None) now later → IsBack n later after → AddsNone h steps (BeginsWith limit c) before after
+step_none h [] next limit c n before now later after k l a b = absurd (let s = k.some in omega arith)
+step_none h ((x, y) ∷ fs) next limit c n before now later after k l a b = record {
   none = with_none h before.triangles.items x y c fs limit
       (carried (λ us es. HasNone h us es (BeginsAfter None)) now.triangles.items (before.triangles.items ++ written x y c ∷ []) next (closed x y c fs) k.all k.front a.none);
   words = b.word before.word.items c (a.words ∙ k.words);
   all = b.triangles before.triangles.items (written x y c) (a.all ∙ k.all);
+  waiting = back_steps h ((x, y) ∷ fs) next c n before now later after k l a.waiting b;
 }
 
 -- ---- after the last word
 
 pub last_empty : (h : Patch) (steps : List (ℕ × ℕ)) (last : List ℕ) (before : Path) → true ≡ (length last == 0) → ((us : List Triangle) × Completes h before.triangles.items steps last us)
     → AddsNone h steps (IsBelow last) before before
-last_empty h steps [] before e k = record { none = empty_last h before.triangles.items steps k.0 k.1; words = refl; all = refl }
+last_empty h steps [] before e k = record { none = empty_last h before.triangles.items steps k.0 k.1; words = refl; all = refl; waiting = refl }
 last_empty h steps (c ∷ last) before e k = absurd (let n = none_long (length (c ∷ last)) e in omega arith)
 
 abbrev pub first_number : List ℕ → ℕ
@@ -229,39 +282,43 @@ next_step_found h ((x, y) ∷ fs) next (c ∷ last) before now after s k a = rec
 pub record IsPassed (h : Patch) (steps : List (ℕ × ℕ)) (last : List ℕ) (before now : Path) : Type 0 where
   pub words : now.word.items ≡ before.word.items
   pub all : now.triangles.items ≡ before.triangles.items
+  pub waiting : now.steps.items ≡ before.steps.items
   pub found : (w : List ℕ) (us : List Triangle) → IsFirst h before.triangles.items steps (BeginsAfter (Some (first_number last))) w us → IsFirst h before.triangles.items steps (IsBelow last) w us
   pub none : HasNone h before.triangles.items steps (BeginsAfter (Some (first_number last))) → HasNone h before.triangles.items steps (IsBelow last)
 
-pub next_step_passed : (h : Patch) (steps next : List (ℕ × ℕ)) (last : List ℕ) (before now then after : Path) → 0 < length last → IsStepOn h steps next (first_number last) before now
-    → AddsNone h next (IsBelow (rest_numbers last)) now then → IsBack then after → IsPassed h steps last before after
-next_step_passed h steps next [] before now then after s k a b = absurd (omega (arith, s))
-next_step_passed h [] next (c ∷ last) before now then after s k a b = absurd (let s = k.some in omega arith)
-next_step_passed h ((x, y) ∷ fs) next (c ∷ last) before now then after s k a b =
-    let n : HasNone h (before.triangles.items ++ written x y c ∷ []) (closed x y c fs) (IsBelow last) =
+pub next_step_passed : (h : Patch) (steps next : List (ℕ × ℕ)) (last : List ℕ) (n : ℕ) (before now later after : Path) → 0 < length last → IsStepOn h steps next (first_number last) before now
+    → n ≡ length before.steps.items → AddsNone h next (IsBelow (rest_numbers last)) now later → IsBack n later after → IsPassed h steps last before after
+next_step_passed h steps next [] n before now later after s k l a b = absurd (omega (arith, s))
+next_step_passed h [] next (c ∷ last) n before now later after s k l a b = absurd (let s = k.some in omega arith)
+next_step_passed h ((x, y) ∷ fs) next (c ∷ last) n before now later after s k l a b =
+    let no : HasNone h (before.triangles.items ++ written x y c ∷ []) (closed x y c fs) (IsBelow last) =
     carried (λ us es. HasNone h us es (IsBelow last)) now.triangles.items (before.triangles.items ++ written x y c ∷ []) next (closed x y c fs) k.all k.front a.none in
     record {
       words = b.word before.word.items c (a.words ∙ k.words);
       all = b.triangles before.triangles.items (written x y c) (a.all ∙ k.all);
-      found = λ w us f. next_later h before.triangles.items x y c fs last w us n f;
-      none = λ m. next_none h before.triangles.items x y c fs last n m;
+      waiting = back_steps h ((x, y) ∷ fs) next c n before now later after k l a.waiting b;
+      found = λ w us f. next_later h before.triangles.items x y c fs last w us no f;
+      none = λ m. next_none h before.triangles.items x y c fs last no m;
     }
 
 -- the answer of the search after the first number
-pub passed_answer : (h : Patch) (steps : List (ℕ × ℕ)) (last : List ℕ) (before now after : Path) (found : Bool) → IsPassed h steps last before now
-    → MatchBool found (Adds h steps (BeginsAfter (Some (first_number last))) now after) (AddsNone h steps (BeginsAfter (Some (first_number last))) now after)
+pub passed_answer : (h : Patch) (steps es : List (ℕ × ℕ)) (last : List ℕ) (before now after : Path) (found : Bool) → es ≡ steps → IsPassed h steps last before now
+    → MatchBool found (Adds h es (BeginsAfter (Some (first_number last))) now after) (AddsNone h es (BeginsAfter (Some (first_number last))) now after)
     → MatchBool found (Adds h steps (IsBelow last) before after) (AddsNone h steps (IsBelow last) before after)
-passed_answer h steps last before now after true p a =
-    let P : List Triangle → Type 0 = λ us. IsFirst h us steps (BeginsAfter (Some (first_number last))) a.word a.triangles in
-    record {
-      word = a.word;
-      triangles = a.triangles;
-      is = p.found a.word a.triangles (subst P p.all a.is);
-      words = a.words ∙ ap (λ w. w ++ a.word) p.words;
-      all = a.all ∙ ap (λ us. us ++ a.triangles) p.all;
-    }
-passed_answer h steps last before now after false p a =
-    let P : List Triangle → Type 0 = λ us. HasNone h us steps (BeginsAfter (Some (first_number last))) in
-    record { none = p.none (subst P p.all a.none); words = a.words ∙ p.words; all = a.all ∙ p.all }
+passed_answer h steps es last before now after true e p a = record {
+  word = a.word;
+  triangles = a.triangles;
+  is = p.found a.word a.triangles
+      (carried (λ us fs. IsFirst h us fs (BeginsAfter (Some (first_number last))) a.word a.triangles) now.triangles.items before.triangles.items es steps p.all e a.is);
+  words = a.words ∙ ap (λ w. w ++ a.word) p.words;
+  all = a.all ∙ ap (λ us. us ++ a.triangles) p.all;
+}
+passed_answer h steps es last before now after false e p a = record {
+  none = p.none (carried (λ us fs. HasNone h us fs (BeginsAfter (Some (first_number last)))) now.triangles.items before.triangles.items es steps p.all e a.none);
+  words = a.words ∙ p.words;
+  all = a.all ∙ p.all;
+  waiting = a.waiting ∙ p.waiting;
+}
 
 -- there is room for fewer triangles after one more
 pub room_falls : (m : ℕ) (us vs : List Triangle) (t : Triangle) → vs ≡ us ++ t ∷ [] → length vs ≤ m → 2 * (m - length vs) + 1 < 2 * (m - length us)
@@ -281,3 +338,9 @@ rest_is (c ∷ last) = take_all (length (c ∷ last) - 1) last (omega arith)
 pub length_rest : (last : List ℕ) → 0 < length last → length (take (length last - 1) (drop 1 last)) < length last
 length_rest [] l = absurd (omega (arith, l))
 length_rest (c ∷ last) l = let e = ap length (rest_is (c ∷ last)) in omega arith
+
+pub left_within : (steps : List (ℕ × ℕ)) (n : ℕ) → 0 < length (drop n steps) → n < length steps
+left_within [] zero l = absurd (omega (arith, l))
+left_within [] (suc n) l = absurd (omega (arith, l))
+left_within (x ∷ steps) zero l = omega arith
+left_within (x ∷ steps) (suc n) l = let r = left_within steps n l in omega arith

@@ -8,3 +8,4 @@ pub mod Numbers
 pub mod Standing
 pub mod RowLemmas
 pub mod BookLemmas
+pub mod Separations

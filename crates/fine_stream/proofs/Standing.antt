@@ -31,7 +31,7 @@ answer_same h steps P Q true before after f g a = record {
   words = a.words;
   all = a.all;
 }
-answer_same h steps P Q false before after f g a = record { none = λ v vs k q. a.none v vs k (g v q); words = a.words; all = a.all }
+answer_same h steps P Q false before after f g a = record { none = λ v vs k q. a.none v vs k (g v q); words = a.words; all = a.all; waiting = a.waiting }
 
 pub start_answer : (h : Patch) (steps : List (ℕ × ℕ)) (position : Position) (found : Bool) (before after : Path) → position ≡ Start
     → Answers h steps (BeginsAfter None) found before after → Answers h steps (Follows position) found before after
@@ -49,7 +49,7 @@ after_answer h steps position word last found before after e f a =
 pub end_answer : (h : Patch) (steps : List (ℕ × ℕ)) (position : Position) (before : Path) → position ≡ End → AddsNone h steps (Follows position) before before
 end_answer h steps position before e =
     let A : Position → Type 0 = λ p. AddsNone h steps (Follows p) before before in
-    subst A (sym e) (record { none = λ v vs k p. p; words = refl; all = refl })
+    subst A (sym e) (record { none = λ v vs k p. p; words = refl; all = refl; waiting = refl })
 
 -- the last word leads from the boundary to the end
 pub last_completes : (h : Patch) (steps : List (ℕ × ℕ)) (position : Position) (word last : List ℕ) (ts : List Triangle) → AreSteps h steps → position ≡ After word → last ≡ word → ts ≡ []

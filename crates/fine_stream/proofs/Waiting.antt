@@ -1,5 +1,5 @@
 -- What waits on a walk of the word, and that triples are a fine triangulation where nothing waits.
-use Rattle.std.proofs.Common.{◌≡◌, ◌≢◌, ℕ, ◌⊎◌, inl, inr, ⊎_elim, Bool, true, false, refl, sym, ap, ◌∙◌, subst, arith, List, [], ◌∷◌, ◌++◌, append_assoc, append-nil, ℤ, pos, negsuc, ◌<ℤ◌, neg_ℤ}
+use Rattle.std.proofs.Common.{◌≡◌, ◌≢◌, ℕ, ◌⊎◌, inl, inr, ⊎_elim, Bool, true, false, refl, sym, ap, ◌∙◌, subst, arith, List, [], ◌∷◌, ◌++◌, append_assoc, append-nil, ℤ, pos, ◌<ℤ◌, neg_ℤ}
 use Rattle.std.specs.Prelude.{All, AllPairs, Contains}
 use Rattle.std.specs.List.{list_any}
 use Rattle.std.proofs.lemmas.Int.{ints}
@@ -20,8 +20,8 @@ use Rattle.face_chart.proofs.Walk.{any_contains, after_keeps, after_only, after_
 use Rattle.face_chart.proofs.WordExists.{contains_any, triangulation_apart}
 use Rattle.ntfe_model.proofs.Folds.{unit_three}
 use Rattle.ntfe_model.proofs.Items.{steps_fixed}
-use Rattle.fine_stream.specs.Paths.{AreOpposite, AreCompatible, IsPart, Completes}
-use Rattle.fine_stream.proofs.Crosses.{crossing_turns, cross_back}
+use Rattle.fine_stream.specs.Paths.{AreCompatible, IsPart, Completes}
+use Rattle.fine_stream.proofs.Crosses.{crossing_turns, cross_back, zero_first, zero_second}
 use Rattle.fine_stream.proofs.Parts.{unit_side, part_left, single_contains}
 use Rattle.fine_stream.proofs.Searches.{closed, fits_unit}
 
@@ -154,14 +154,6 @@ one_triple t a b c d (inr (inl p)) (inr (inr q)) = inr (inl (sym p.1 ∙ q.0))
 one_triple t a b c d (inr (inr p)) (inl q) = inr (inl (sym p.1 ∙ q.0))
 one_triple t a b c d (inr (inr p)) (inr (inl q)) = inr (inr (sym p.0 ∙ q.1))
 one_triple t a b c d (inr (inr p)) (inr (inr q)) = inl (sym p.0 ∙ q.0, sym p.1 ∙ q.1)
-
-zero_first : (x y : ℤ) → x ≡ pos 0 → AreOpposite x y → ⊥
-zero_first x y e (inl p) = let f : pos 0 ≡ pos 1 = sym e ∙ p.0 in absurd (omega (arith, ints, f))
-zero_first x y e (inr p) = let f : pos 0 ≡ negsuc 0 = sym e ∙ p.0 in absurd (omega (arith, ints, f))
-
-zero_second : (x y : ℤ) → y ≡ pos 0 → AreOpposite x y → ⊥
-zero_second x y e (inl p) = let f : pos 0 ≡ negsuc 0 = sym e ∙ p.1 in absurd (omega (arith, ints, f))
-zero_second x y e (inr p) = let f : pos 0 ≡ pos 1 = sym e ∙ p.1 in absurd (omega (arith, ints, f))
 
 -- the sides of one triple don't cross
 own_apart : (h : Patch) → AreApart h → (t : Triangle) → IsUnit h t.a t.b t.c → (a b c d : ℕ) → HasSide t a b → HasSide t c d → ¬ (HaveSameEnds a b c d)

@@ -39,8 +39,9 @@ pub record Adds (h : Patch) (steps : List (ℕ × ℕ)) (P : List ℕ → Type 0
   pub words : after.word.items ≡ before.word.items ++ word
   pub all : after.triangles.items ≡ before.triangles.items ++ triangles
 
--- there is no word, and the path is as before
+-- there is no word, and the path with its steps is as before
 pub record AddsNone (h : Patch) (steps : List (ℕ × ℕ)) (P : List ℕ → Type 0) (before after : Path) : Type 0 where
   pub none : HasNone h before.triangles.items steps P
   pub words : after.word.items ≡ before.word.items
   pub all : after.triangles.items ≡ before.triangles.items
+  pub waiting : after.steps.items ≡ before.steps.items

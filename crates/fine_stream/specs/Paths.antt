@@ -1,6 +1,6 @@
 -- Words on their way to a fine triangulation.
-use Rattle.std.specs.Prelude.{◌≡◌, ℕ, ◌⊎◌, ℤ, pos, negsuc, List, ◌++◌, All, AllPairs}
-use Rattle.ntfe_model.specs.Charts.{Patch, IsOf, IsUnit, place}
+use Rattle.std.specs.Prelude.{◌≡◌, ◌≢◌, ℕ, ◌⊎◌, ℤ, pos, negsuc, List, ◌++◌, All, AllPairs}
+use Rattle.ntfe_model.specs.Charts.{Patch, IsOf, IsUnit, place, turn}
 use Rattle.ntfe_model.specs.Triangulations.{HasSide, HaveSameEnds, DoCross}
 use Rattle.ntfe_model.specs.Words.{Closes}
 use Rattle.ntfe_model.specs.declared.triangle.Triangle.{Triangle}
@@ -20,6 +20,10 @@ AreInConflict h x y z w = ((x ≡ z) × (y ≡ w)) ⊎ ((¬ (HaveSameEnds x y z 
 -- no side of one triple is in conflict with a side of the other
 pub record AreCompatible (h : Patch) (t u : Triangle) : Type 0 where
   pub apart : (x y z w : ℕ) → HasSide t x y → HasSide u z w → ¬ (AreInConflict h x y z w)
+
+-- no corner of the triple lies to the left of (x, y)
+abbrev pub IsBeyond : Patch → ℕ → ℕ → Triangle → Type 0
+IsBeyond h x y u = (turn h x y u.a ≢ pos 1) × (turn h x y u.b ≢ pos 1) × (turn h x y u.c ≢ pos 1)
 
 -- unit triples, each two of them compatible
 pub record IsPart (h : Patch) (ts : List Triangle) : Type 0 where

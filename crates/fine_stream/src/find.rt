@@ -11,27 +11,29 @@ use face_chart::Chart;
 use ntfe_model::{List, Triangulation};
 use std::alloc::{AllocError, Global};
 
+/// The length of the last item's word, which is that of the next one too; 0 before the first item.
+fn word_length(position: &Position) -> usize {
+    match position {
+        Position::After(word) => word.as_slice().len(),
+        Position::Start | Position::End => 0,
+    }
+}
+
 /// Adds to the empty path the first word after the position that leads from the boundary to the end.
 /// The answer is whether there is one.
-fn add_after(
-    alloc: Global,
-    chart: &Chart,
-    boundary: &[(u32, u32)],
-    position: &Position,
-    path: &mut Path,
-) -> Result<bool, AllocError>
-    requires boundary { AreSteps chart.now boundary.now }
+fn add_after(chart: &Chart, position: &Position, path: &mut Path) -> Result<bool, AllocError>
+    requires boundary { AreSteps chart.now path.old.steps.items }
     requires position { (n : ℕ) × IsPlace chart.now n position.now }
     requires triangles { path.old.triangles.items ≡ [] }
-    ensures { IfOk result (λ found. MatchBool found (Adds chart.now boundary.now (Follows position.now) path.old path.new) (AddsNone chart.now boundary.now (Follows position.now) path.old path.new)) }
+    ensures { IfOk result (λ found. MatchBool found (Adds chart.now path.old.steps.items (Follows position.now) path.old path.new) (AddsNone chart.now path.old.steps.items (Follows position.now) path.old path.new)) }
 {
     match position {
         Position::Start => {
-            let found = add_first(alloc, chart, boundary, None, path)?;
+            let found = add_first(chart, 0, None, path)?;
             Ok(found)
         }
         Position::After(word) => {
-            let found = add_next(alloc, chart, boundary, word.as_slice(), path)?;
+            let found = add_next(chart, 0, word.as_slice(), path)?;
             Ok(found)
         }
         Position::End => Ok(false),
@@ -49,11 +51,16 @@ pub fn find(
 {
     // the points lie apart
     let _points = chart.points();
-    let mut path = Path::new(alloc);
-    if !add_after(alloc, chart, chart.boundary(), position, &mut path)? {
+    let mut path = Path::new(alloc, chart.boundary(), word_length(position))?;
+    if !add_after(chart, position, &mut path)? {
         return Ok(None);
     }
-    let Path { word, triangles } = path;
+    let Path {
+        word,
+        triangles,
+        steps: _,
+        between: _,
+    } = path;
     Ok(Some(Triangulation {
         word: List::from_vec(word),
         triangles: List::from_vec(triangles),

@@ -1,9 +1,9 @@
 //! The steps that wait.
-ghost use Rattle.std.specs.Prelude.{◌≡◌, ℕ, ◌<◌, ◌∷◌, ◌==◌, ◌&&◌, ◌||◌, nat_lt, not, List, filter, length, IfOk};
+ghost use Rattle.std.specs.Prelude.{◌≡◌, ◌++◌, ◌==◌, ◌&&◌, ◌||◌, nat_lt, not, filter, OnOk};
 ghost use Rattle.ntfe_model.specs.Words.{is_same_step, with_step as with_waiting, after_side};
 ghost use Rattle.std.specs.List.{list_any};
 
-use std::alloc::{AllocError, Global};
+use std::alloc::AllocError;
 
 /// Whether the step comes before the other.
 fn is_before(e: (u32, u32), f: (u32, u32)) -> bool
@@ -12,15 +12,14 @@ fn is_before(e: (u32, u32), f: (u32, u32)) -> bool
     e.0 < f.0 || e.0 == f.0 && e.1 < f.1
 }
 
-/// The steps with one more, in its place.
-fn with_step(
-    alloc: Global,
+/// Adds the steps with one more, in its place.
+fn add_with_step(
     e: (u32, u32),
     steps: &[(u32, u32)],
-) -> Result<Vec<(u32, u32)>, AllocError>
-    ensures { IfOk result (λ v. v.items ≡ with_waiting e steps.now) }
+    out: &mut Vec<(u32, u32)>,
+) -> Result<(), AllocError>
+    ensures { OnOk result (out.new.items ≡ out.old.items ++ with_waiting e steps.now) }
 {
-    let mut out = Vec::with_capacity(alloc, steps.len() + 1)?;
     let mut placed = false;
     for f in steps {
         if !placed && is_before(e, *f) {
@@ -32,18 +31,30 @@ fn with_step(
     if !placed {
         out.push(e)?;
     }
-    Ok(out)
+    Ok(())
 }
 
-/// The steps without one.
-fn without_step(
-    alloc: Global,
+/// Adds the steps without one.
+fn add_without_step(
     e: (u32, u32),
     steps: &[(u32, u32)],
-) -> Result<Vec<(u32, u32)>, AllocError>
-    ensures { IfOk result (λ v. v.items ≡ filter (λ f. not (is_same_step e f)) steps.now) }
+    out: &mut Vec<(u32, u32)>,
+) -> Result<(), AllocError>
+    ensures { OnOk result (out.new.items ≡ out.old.items ++ filter (λ f. not (is_same_step e f)) steps.now) }
 {
-    steps.iter().filter(|f| **f != e).map(|f| *f).collect(alloc)
+    for f in steps {
+        if !is_same(e, *f) {
+            out.push(*f)?;
+        }
+    }
+    Ok(())
+}
+
+/// Whether the steps are one.
+fn is_same(e: (u32, u32), f: (u32, u32)) -> bool
+    ensures { result ≡ is_same_step e f }
+{
+    e.0 == f.0 && e.1 == f.1
 }
 
 /// Whether the step is among the steps.
@@ -53,26 +64,17 @@ fn waits(e: (u32, u32), steps: &[(u32, u32)]) -> bool
     steps.iter().any(|f| e.0 == f.0 && e.1 == f.1)
 }
 
-/// The steps after a side came: if it waited it is removed, else its reverse waits.
-fn after(alloc: Global, e: (u32, u32), steps: &[(u32, u32)]) -> Result<Vec<(u32, u32)>, AllocError>
-    ensures { IfOk result (λ v. v.items ≡ after_side e steps.now) }
+/// Adds the steps after a side came: if it waited it is removed, else its reverse waits.
+pub fn add_after(
+    e: (u32, u32),
+    steps: &[(u32, u32)],
+    out: &mut Vec<(u32, u32)>,
+) -> Result<(), AllocError>
+    ensures { OnOk result (out.new.items ≡ out.old.items ++ after_side e steps.now) }
 {
     if waits(e, steps) {
-        return without_step(alloc, e, steps);
+        add_without_step(e, steps, out)
+    } else {
+        add_with_step((e.1, e.0), steps, out)
     }
-    with_step(alloc, (e.1, e.0), steps)
-}
-
-/// The steps that wait once the first step of a front is closed to the triangle with a third point.
-pub fn next_front(
-    alloc: Global,
-    steps: &[(u32, u32)],
-    c: u32,
-) -> Result<Vec<(u32, u32)>, AllocError>
-    requires { 0 < length steps.now }
-    ensures { IfOk result (λ v. (a b : ℕ) (fs : List (ℕ × ℕ)) → steps.now ≡ (a, b) ∷ fs → v.items ≡ after_side (c, a) (after_side (b, c) fs)) }
-{
-    let (a, b) = steps[0];
-    let once = after(alloc, (b, c), &steps[1..])?;
-    after(alloc, (c, a), once.as_slice())
 }

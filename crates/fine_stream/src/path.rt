@@ -1,15 +1,20 @@
 //! A word as far as it has come.
-ghost use Rattle.std.specs.Prelude.{◌≡◌, ◌++◌, ◌∷◌, [], List, ℕ, OnOk};
-ghost use Rattle.ntfe_model.specs.Words.{written as as_written};
+ghost use Rattle.std.specs.Prelude.{◌≡◌, ℕ, ◌<◌, ◌++◌, ◌∷◌, [], List, length, take, drop, IfOk, OnOk};
+ghost use Rattle.ntfe_model.specs.Words.{written as as_written, after_side};
 
+use crate::fronts::add_after;
 use ntfe_model::Triangle;
 use std::alloc::{AllocError, Global};
 
-/// A word as far as it has come, with its triangles.
+/// A word as far as it has come, with its triangles, and the steps that wait before and after each of them.
 #[derive(Drop)]
 pub struct Path {
     pub word: Vec<u32>,
     pub triangles: Vec<Triangle>,
+    /// The lists of the waiting steps, one after the other. The last one waits now.
+    pub steps: Vec<(u32, u32)>,
+    /// What waits between the two sides of a triangle.
+    pub between: Vec<(u32, u32)>,
 }
 
 /// The triangle of three points that turn to the left, with the least number first.
@@ -28,33 +33,60 @@ pub fn written(a: u32, b: u32, c: u32) -> Triangle
 impl Path {
     ghost use Rattle.ntfe_model.specs.declared.triangle.Triangle.{Triangle};
 
-    /// The empty path.
-    pub fn new(alloc: Global) -> Path
-        ensures word { result.word.items ≡ [] }
-        ensures triangles { result.triangles.items ≡ [] }
+    /// The empty path, where these steps wait, with room for a word of this length.
+    pub fn new(alloc: Global, steps: &[(u32, u32)], room: usize) -> Result<Path, AllocError>
+        ensures word { IfOk result (λ p. p.word.items ≡ []) }
+        ensures triangles { IfOk result (λ p. p.triangles.items ≡ []) }
+        ensures steps { IfOk result (λ p. p.steps.items ≡ steps.now) }
     {
-        Path {
-            word: Vec::new(alloc),
-            triangles: Vec::new(alloc),
-        }
+        let word = Vec::with_capacity(alloc, room)?;
+        let triangles = Vec::with_capacity(alloc, room)?;
+        let steps = Vec::from_slice(alloc, steps)?;
+        Ok(Path {
+            word,
+            triangles,
+            steps,
+            between: Vec::new(alloc),
+        })
     }
 
-    /// Adds a number and its triangle.
-    pub fn push(&mut self, point: u32, triangle: Triangle) -> Result<(), AllocError>
-        ensures word { OnOk result (self.new.word.items ≡ self.old.word.items ++ point ∷ []) }
-        ensures triangles { OnOk result (self.new.triangles.items ≡ self.old.triangles.items ++ triangle ∷ []) }
+    /// Adds the steps that wait once the first step of those from `start` on is closed to the triangle with the point c.
+    fn push_steps(&mut self, start: usize, c: u32) -> Result<(), AllocError>
+        requires { start < length self.old.steps.items }
+        ensures word { self.new.word ≡ self.old.word }
+        ensures triangles { self.new.triangles ≡ self.old.triangles }
+        ensures steps { OnOk result ((a b : ℕ) (fs : List (ℕ × ℕ)) → drop start self.old.steps.items ≡ (a, b) ∷ fs
+            → self.new.steps.items ≡ self.old.steps.items ++ after_side (c, a) (after_side (b, c) fs)) }
     {
-        self.word.push(point)?;
+        let (a, b) = self.steps[start];
+        self.between.clear();
+        add_after((b, c), &self.steps[start + 1..], &mut self.between)?;
+        add_after((c, a), self.between.as_slice(), &mut self.steps)?;
+        Ok(())
+    }
+
+    /// Adds a number with its triangle, which closes the first step of those from `start` on, and the steps that wait then.
+    pub fn push(&mut self, start: usize, c: u32, triangle: Triangle) -> Result<(), AllocError>
+        requires { start < length self.old.steps.items }
+        ensures word { OnOk result (self.new.word.items ≡ self.old.word.items ++ c ∷ []) }
+        ensures triangles { OnOk result (self.new.triangles.items ≡ self.old.triangles.items ++ triangle ∷ []) }
+        ensures steps { OnOk result ((a b : ℕ) (fs : List (ℕ × ℕ)) → drop start self.old.steps.items ≡ (a, b) ∷ fs
+            → self.new.steps.items ≡ self.old.steps.items ++ after_side (c, a) (after_side (b, c) fs)) }
+    {
+        self.push_steps(start, c)?;
+        self.word.push(c)?;
         self.triangles.push(triangle)?;
         Ok(())
     }
 
-    /// Takes the last number and its triangle away.
-    pub fn pop(&mut self)
+    /// Takes the last number and its triangle away, and all but so many steps.
+    pub fn pop(&mut self, steps: usize)
         ensures word { (word : List ℕ) (c : ℕ) → self.old.word.items ≡ word ++ c ∷ [] → self.new.word.items ≡ word }
         ensures triangles { (ts : List Triangle) (t : Triangle) → self.old.triangles.items ≡ ts ++ t ∷ [] → self.new.triangles.items ≡ ts }
+        ensures steps { self.new.steps.items ≡ take steps self.old.steps.items }
     {
         let _ = self.word.pop();
         let _ = self.triangles.pop();
+        self.steps.truncate(steps);
     }
 }

@@ -1,7 +1,7 @@
 //! Sides that cannot stand together.
 ghost use Rattle.std.specs.Prelude.{◌≡◌, ℕ, ◌++◌, ◌∷◌, [], true, false};
 ghost use Rattle.ntfe_model.specs.Charts.{AreApart};
-ghost use Rattle.fine_stream.specs.Paths.{AreOpposite, IsUnitSide, AreInConflict, AreCompatible, IsPart};
+ghost use Rattle.fine_stream.specs.Paths.{AreOpposite, IsUnitSide, IsBeyond, AreInConflict, AreCompatible, IsPart};
 ghost use Rattle.ntfe_model.specs.Charts.{IsOf, IsUnit, turn};
 ghost use Rattle.ntfe_model.specs.Triangulations.{HasSide};
 
@@ -73,6 +73,34 @@ fn has_conflict(chart: &Chart, x: u32, y: u32, u: &Triangle) -> bool
     conflict(chart, x, y, u.c, u.a)
 }
 
+/// Whether no corner of the triangle lies to the left of (x, y).
+fn is_beyond(chart: &Chart, x: u32, y: u32, u: &Triangle) -> bool
+    requires x { IsOf chart.now x }
+    requires y { IsOf chart.now y }
+    requires a { IsOf chart.now u.now.a }
+    requires b { IsOf chart.now u.now.b }
+    requires c { IsOf chart.now u.now.c }
+    ensures { result ≡ true → IsBeyond chart.now x y u.now }
+{
+    chart.orient(x, y, u.a) != 1 && chart.orient(x, y, u.b) != 1 && chart.orient(x, y, u.c) != 1
+}
+
+/// Whether the second triangle lies beyond a side of the first one. Then the two are compatible.
+fn is_beyond_side(chart: &Chart, t: &Triangle, u: &Triangle) -> bool
+    requires apart { AreApart chart.now }
+    requires first { IsUnit chart.now t.now.a t.now.b t.now.c }
+    requires second { IsUnit chart.now u.now.a u.now.b u.now.c }
+    ensures { result ≡ true → AreCompatible chart.now t.now u.now }
+{
+    if is_beyond(chart, t.a, t.b, u) {
+        return true;
+    }
+    if is_beyond(chart, t.b, t.c, u) {
+        return true;
+    }
+    is_beyond(chart, t.c, t.a, u)
+}
+
 /// Whether no side of one triangle is in conflict with a side of the other.
 fn are_compatible(chart: &Chart, t: &Triangle, u: &Triangle) -> bool
     requires apart { AreApart chart.now }
@@ -81,6 +109,12 @@ fn are_compatible(chart: &Chart, t: &Triangle, u: &Triangle) -> bool
     ensures when_true { result ≡ true → AreCompatible chart.now t.now u.now }
     ensures when_false { result ≡ false → ¬ (AreCompatible chart.now t.now u.now) }
 {
+    if is_beyond_side(chart, u, t) {
+        return true;
+    }
+    if is_beyond_side(chart, t, u) {
+        return true;
+    }
     if has_conflict(chart, t.a, t.b, u) {
         return false;
     }

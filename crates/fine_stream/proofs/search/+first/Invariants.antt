@@ -1,4 +1,4 @@
-use Rattle.std.proofs.Common.{◌+◌, ◌-◌, ◌*◌, length}
+use Rattle.std.proofs.Common.{◌+◌, ◌-◌, ◌*◌, length, drop}
 use Rattle.ntfe_model.specs.Charts.{spot_numbers}
 use Rattle.fine_stream.proofs.Finding.{IsTurning}
 use Rattle.fine_stream.proofs.search.+first.Given as goal
@@ -10,4 +10,4 @@ abbrev pub decreases-add_with : goal.decreases-add_with
 decreases-add_with l = 2 * (length (spot_numbers l.chart.now) * length (spot_numbers l.chart.now) - length l.path.now.triangles.items)
 
 abbrev pub invariant-add_first-loop-c : goal.invariant-add_first-loop-c
-invariant-add_first-loop-c l = IsTurning l.chart l.steps l.limit l.c-items l.c-index l.fn.path l.path
+invariant-add_first-loop-c l = IsTurning l.chart (drop l.start l.fn.path.steps.items) l.limit l.c-items l.c-index l.fn.path l.path
