@@ -1,12 +1,12 @@
 -- The order of keys, at heads that they share.
-use Rattle.std.proofs.Common.{◌≡◌, ◌∙◌, refl, sym, ap, subst, ◌⊎◌, inl, inr, ℕ, ◌<◌, List, [], ◌∷◌, ◌++◌, arith}
+use Rattle.std.proofs.Common.{◌≡◌, ◌∙◌, refl, sym, ap, subst, ℕ, ◌<◌, List, [], ◌∷◌, ◌++◌, arith}
 use Rattle.std.specs.Ordering.{nat_cmp, ordering_then, ordering_reverse}
 use Rattle.std.specs.declared.cmp.Ordering.TheVariants.{Less, Equal, Greater}
 use Rattle.std.specs.Cmp.Lexicographic.{slice_cmp, nat_list_cmp_total}
 use Rattle.std.proofs.lemmas.Cmp.{nat_cmp_total, tied_itself}
 use Rattle.std.proofs.lemmas.Bool.Decides.{nat_tests}
 use Rattle.ntfe_model.specs.Lists.{IsBelow}
-use Rattle.ntfe_model.proofs.Orders.{below_once, three_ways}
+use Rattle.ntfe_model.proofs.Orders.{below_once, equal_lists}
 
 -- a head that two lists share does not count
 pub compare_behind : (head xs ys : List ℕ) → slice_cmp nat_cmp (head ++ xs) (head ++ ys) ≡ slice_cmp nat_cmp xs ys
@@ -38,14 +38,6 @@ not_below_head (y ∷ head) xs h =
 pub below_from_above : (v w : List ℕ) → slice_cmp nat_cmp v w ≡ Greater → IsBelow w v
 below_from_above v w q = nat_list_cmp_total.antisymm w v ∙ ap ordering_reverse q
 
-pub same_from_equal : (v w : List ℕ) → slice_cmp nat_cmp v w ≡ Equal → v ≡ w
-same_from_equal v w q = by (three_ways v w)
-  where
-    by : IsBelow v w ⊎ ((v ≡ w) ⊎ IsBelow w v) → v ≡ w
-    by (inl l) = absurd (let e : Less ≡ Equal = sym l ∙ q in cc)
-    by (inr (inl e)) = e
-    by (inr (inr l)) = absurd (let e : Less ≡ ordering_reverse Equal = sym l ∙ nat_list_cmp_total.antisymm w v ∙ ap ordering_reverse q in cc)
-
 -- what a comparison answered, once the second list is read
 pub below_read : (v w x : List ℕ) → Less ≡ slice_cmp nat_cmp v w → w ≡ x → IsBelow v x
 below_read v w x e f = sym (ap (slice_cmp nat_cmp v) f) ∙ sym e
@@ -54,4 +46,4 @@ pub above_read : (v w x : List ℕ) → Greater ≡ slice_cmp nat_cmp v w → w 
 above_read v w x e f = let P : List ℕ → Type 0 = λ y. IsBelow y v in subst P f (below_from_above v w (sym e))
 
 pub same_read : (v w x : List ℕ) → Equal ≡ slice_cmp nat_cmp v w → w ≡ x → x ≡ v
-same_read v w x e f = sym f ∙ sym (same_from_equal v w (sym e))
+same_read v w x e f = sym f ∙ sym (equal_lists v w (sym e))

@@ -6,7 +6,6 @@ pub mod Holders
 pub mod SettleLemmas
 pub mod StartLemmas
 pub mod TellLemmas
-pub mod FaceCount
 pub mod LeastLemmas
 pub mod CloseLemmas
 pub mod TurnLemmas

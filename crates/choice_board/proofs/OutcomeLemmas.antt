@@ -17,7 +17,7 @@ use Rattle.choice_board.specs.declared.record.Found.TheVariants.{Class as FoundC
 use Rattle.choice_board.specs.declared.record.Stop.{Stop}
 use Rattle.choice_board.specs.declared.record.Stop.TheVariants.{Wide as StopWide, Far as StopFar}
 use Rattle.choice_board.specs.declared.totals.Totals.{Totals}
-use Rattle.choice_board.proofs.FaceCount.{faces_few}
+use Rattle.ntfe_model.proofs.Counts.{faces_few}
 use Rattle.choice_board.proofs.TellLemmas.{taken, class_sound, stop_sound, end_is_next}
 use Rattle.choice_board.proofs.TurnLemmas.{end_of, waits_without_turn}
 

@@ -10,5 +10,5 @@ mod shelf;
 mod solving;
 
 pub use finding::Finding;
-pub use probing::probe;
+pub use probing::{probe, probe_shelved};
 pub use shelf::Shelf;

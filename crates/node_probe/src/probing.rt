@@ -58,12 +58,12 @@ fn found_before<B: Book>(
 /// - a two-face is left.
 ///
 /// The items that were looked for are kept in the book, which loses none, and their folds on the shelf
-/// of the geometry. Where the head has more folds than the tableau has rows, a larger one takes its
+/// of the geometry, so that a later probe does not make them again. Where the head has more folds than the tableau has rows, a larger one takes its
 /// place.
 ///
 /// # Errors
 /// `AllocError` where memory is short.
-pub fn probe<B: Book>(
+pub fn probe_shelved<B: Book>(
     alloc: Global,
     geometry: &Geometry,
     key: &Key,
@@ -93,4 +93,33 @@ pub fn probe<B: Book>(
     let rows = shelf.head_rows(alloc, key, book)?;
     make_room(alloc, tableau, rows.folds.len() as u32, columns)?;
     solve_head(alloc, geometry, key, &rows, tableau, width)
+}
+
+/// What is found at a key of the geometry, as [`probe_shelved`] has it, with a shelf of its own. Whoever
+/// probes many keys keeps a shelf.
+///
+/// # Errors
+/// `AllocError` where memory is short.
+pub fn probe<B: Book>(
+    alloc: Global,
+    geometry: &Geometry,
+    key: &Key,
+    book: &mut B,
+    set: &NogoodSet,
+    tableau: &mut Tableau,
+    width: u8,
+) -> Result<Finding, AllocError>
+    requires key { IsKey geometry.now key.now }
+    requires shape { B.shape book.old ≡ geometry.now }
+    requires set { All (IsCertificate geometry.now) set.now }
+    requires columns { tableau.old.columns ≡ length geometry.now.points }
+    requires low { 1 ≤ width }
+    requires high { width ≤ 62 }
+    ensures shape { B.shape book.new ≡ B.shape book.old }
+    ensures kept { KeepsAll (B.keeps book.old) (B.keeps book.new) }
+    ensures columns { tableau.new.columns ≡ tableau.old.columns }
+    ensures finding { IfOk result (IsFinding geometry.now width key.now set.now) }
+{
+    let mut shelf = Shelf::new(alloc, geometry)?;
+    probe_shelved(alloc, geometry, key, book, &mut shelf, set, tableau, width)
 }

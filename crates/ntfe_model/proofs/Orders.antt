@@ -21,7 +21,7 @@ below_once v w p q = let r : Less ≡ ordering_reverse Less = sym p ∙ nat_list
 pub below_chain : (u v w : List ℕ) → IsBelow u v → IsBelow v w → IsBelow u w
 below_chain u v w p q = nat_list_cmp_total.trans u v w p q
 
-equal_lists : (v w : List ℕ) → slice_cmp nat_cmp v w ≡ Equal → v ≡ w
+pub equal_lists : (v w : List ℕ) → slice_cmp nat_cmp v w ≡ Equal → v ≡ w
 equal_lists [] [] e = refl
 equal_lists [] (y ∷ ys) e = cc
 equal_lists (x ∷ xs) [] e = cc

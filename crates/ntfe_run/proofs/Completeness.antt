@@ -1,22 +1,24 @@
 -- Where the input can be answered and no count of faults rose, all was done or memory ran out.
-use Rattle.std.proofs.Common.{◌≡◌, ◌∙◌, ⊎_elim, inl, inr, refl, sym, ap, subst, ℕ, List, Some}
-use Rattle.std.specs.Prelude.{Option}
+use Rattle.std.proofs.Common.{◌≡◌, ◌∙◌, inl, inr, refl, sym, ap, subst, arith, ℕ, ◌-◌, ℤ, List, length, Some}
+use Rattle.std.specs.Prelude.{Option, slice_index}
 use Rattle.io_edge.specs.Reading.{ReadsAll, ReadsPast}
 use Rattle.ntfe_model.specs.Shapes.{Shape}
+use Rattle.ntfe_model.specs.Words.{HasItem}
+use Rattle.ntfe_model.specs.Keys.{item_limit}
 use Rattle.ntfe_run.specs.Inputs.{IsInputOf, IsRefusalOf}
 use Rattle.ntfe_words.specs.CommandLine.{Setting, Reading, number, AreOptions, IsDemo, IsMeaningOf, IsMeaning}
 use Rattle.ntfe_words.specs.declared.command.Command.{Command}
 use Rattle.ntfe_words.specs.declared.command.Command.TheVariants as command
 use Rattle.ntfe_words.specs.declared.command.Options.{Options}
 use Rattle.ntfe_run.specs.Tasks.{IsBuilt, IsTaskOf}
-use Rattle.ntfe_run.specs.Answers.{IsReady, IsReadInput, IsReadRefusal, IsUnbuilt, HasDone, HasAnswer, HasAnswerCause, IsComplete, input_limit}
+use Rattle.ntfe_run.specs.Answers.{IsReadInput, IsReadRefusal, IsTooWide, HasTooMany, IsUnbuilt, IsWithinReach, HasAnswer, HasAnswerCause, IsComplete, input_limit}
 use Rattle.ntfe_run.proofs.InputsFixed.{read_fixed, not_past, input_fixed, not_refused}
 use Rattle.ntfe_run.specs.declared.task.Task.{Task}
 use Rattle.ntfe_run.specs.declared.task.Task.TheVariants.{Classes, Faces}
 use Rattle.ntfe_run.specs.declared.status.Refusal.{Refusal}
 use Rattle.ntfe_run.specs.declared.status.Refusal.TheVariants.{Size, Text, Pair, Points, Unready}
 use Rattle.ntfe_run.specs.declared.status.Status.{Status}
-use Rattle.ntfe_run.specs.declared.status.Status.TheVariants.{Done, Usage, Refused, Memory, ReadFault, WriteFault}
+use Rattle.ntfe_run.specs.declared.status.Status.TheVariants.{Done, Usage, Refused, Overflow, Limit, Memory, ReadFault, WriteFault}
 
 -- ---- words mean one command, and one task is done for it
 
@@ -59,21 +61,34 @@ meaning_fixed words c d h k =
     reading_fixed k.read c d (subst (λ (r : Reading). IsMeaningOf r c) e h.means) k.means
 
 task_fixed : (c : Command) (t u : Task) → IsTaskOf c t → IsTaskOf c u → t ≡ u
-task_fixed (command.Classes o) (Classes push) (Classes other) h k = ap Classes (h.2 ∙ sym k.2)
-task_fixed (command.Classes o) (Classes push) Faces h k = absurd k
+task_fixed (command.Classes o) (Classes push width) (Classes other wide) h k = (let e = h.2 ∙ sym k.2 in let f = h.3 ∙ sym k.3 in λ i. Classes (e i) (f i))
+task_fixed (command.Classes o) (Classes push width) Faces h k = absurd k
 task_fixed (command.Classes o) Faces u h k = absurd h
 task_fixed (command.Resume o) t u h k = absurd h
-task_fixed command.Faces (Classes push) u h k = absurd h
-task_fixed command.Faces Faces (Classes push) h k = absurd k
+task_fixed command.Faces (Classes push width) u h k = absurd h
+task_fixed command.Faces Faces (Classes push width) h k = absurd k
 task_fixed command.Faces Faces Faces h k = refl
 task_fixed (command.Demo n workers width) t u h k = absurd h
 
 is_built : (c : Command) (t : Task) → IsTaskOf c t → IsBuilt c
-is_built (command.Classes o) (Classes push) h = (h.0, h.1)
+is_built (command.Classes o) (Classes push width) h = (h.0, h.1)
 is_built (command.Classes o) Faces h = absurd h
 is_built (command.Resume o) t h = absurd h
 is_built command.Faces t h = tt
 is_built (command.Demo n workers width) t h = absurd h
+
+-- ---- within reach nothing stops a task
+
+not_too_wide : (task : Task) (g : Shape) (choice : List ℕ) (step : ℕ) (number : ℤ) → IsWithinReach task g → IsTooWide task choice step number g → ⊥
+not_too_wide (Classes push width) g choice step number r w = r.0 choice step number w.items w.wide
+not_too_wide Faces g choice step number r w = w
+
+not_too_many : (task : Task) (g : Shape) (face : ℕ) → IsWithinReach task g → HasTooMany task face g → ⊥
+not_too_many (Classes push width) g face r (key, m) =
+    let e = m.ends_at in
+    let at : slice_index key face ≡ item_limit g = (let q : face ≡ length key - 1 = omega (arith, e) in ap (λ i. slice_index key i) q ∙ m.far.0) in
+    r.1 face (subst (HasItem g face) at (m.far.1 face (omega (arith, e))))
+not_too_many Faces g face r h = h
 
 module _ (words : List (List ℕ)) (left left' : Option (List ℕ)) (a : HasAnswer words left) where
   own_bytes : (bytes : List ℕ) → ReadsAll left left' bytes input_limit → bytes ≡ a.bytes
@@ -92,16 +107,13 @@ module _ (words : List (List ℕ)) (left left' : Option (List ℕ)) (a : HasAnsw
   own_input : (g : Shape) → IsReadInput left left' g → a.input ≡ g
   own_input g r = input_fixed a.bytes a.input g a.is (subst (λ (bs : List ℕ). IsInputOf bs g) (own_bytes r.bytes r.reads) r.holds)
 
-  is_ready : (c : Command) (task : Task) (g : Shape) → IsMeaning words c → IsTaskOf c task → IsReadInput left left' g → IsReady task g
-  is_ready c task g m t r =
+  within : (c : Command) (task : Task) (g : Shape) → IsMeaning words c → IsTaskOf c task → IsReadInput left left' g → IsWithinReach task g
+  within c task g m t r =
       let same : IsTaskOf a.asked task = subst (λ (d : Command). IsTaskOf d task) (meaning_fixed words c a.asked m a.means) t in
-      subst (λ (h : Shape). IsReady task h) (own_input g r) (subst (λ (u : Task). IsReady u a.input) (task_fixed a.asked a.task task a.of same) a.ready)
+      subst (λ (h : Shape). IsWithinReach task h) (own_input g r) (subst (λ (u : Task). IsWithinReach u a.input) (task_fixed a.asked a.task task a.of same) a.reach)
 
   not_unbuilt : IsUnbuilt words → ⊥
   not_unbuilt (c, m, n) = n (subst IsBuilt (meaning_fixed words a.asked c a.means m) (is_built a.asked a.task a.of))
-
-  none_unready : (source source' sink sink' stage : ℕ) → HasDone words left left' source source' sink sink' (Refused (Unready stage)) → ⊥
-  none_unready source source' sink sink' stage (c, task, m, t, (same, (g, read, unready))) = unready (is_ready c task g m t read)
 
 pub complete : (words : List (List ℕ)) (left left' : Option (List ℕ)) (source source' sink sink' : ℕ) (status : Status)
     → HasAnswerCause words left left' source source' sink sink' status → IsComplete words left source source' sink sink' status
@@ -110,9 +122,12 @@ complete words left left' source source' sink sink' Memory c a n m = inr refl
 complete words left left' source source' sink sink' Usage c a n m = absurd (c.0 (a.asked, a.means))
 complete words left left' source source' sink sink' ReadFault c a n m = absurd (n c.4)
 complete words left left' source source' sink sink' WriteFault c a n m = absurd (m c.4)
+complete words left left' source source' sink sink' (Overflow choice step number) (c, task, means, of, (g, read, wide)) a n m =
+    absurd (not_too_wide task g choice step number (within words left left' a c task g means of read) wide)
+complete words left left' source source' sink sink' (Limit face) (c, task, means, of, (g, read, many)) a n m =
+    absurd (not_too_many task g face (within words left left' a c task g means of read) many)
 complete words left left' source source' sink sink' (Refused (Size limit)) c a n m = absurd (no_refusal words left left' a (Size limit) c.4)
 complete words left left' source source' sink sink' (Refused (Text fault)) c a n m = absurd (no_refusal words left left' a (Text fault) c.4)
 complete words left left' source source' sink sink' (Refused (Pair fault)) c a n m = absurd (no_refusal words left left' a (Pair fault) c.4)
 complete words left left' source source' sink sink' (Refused (Points fault)) c a n m = absurd (no_refusal words left left' a (Points fault) c.4)
-complete words left left' source source' sink sink' (Refused (Unready stage)) c a n m =
-    absurd (⊎_elim (λ u. not_unbuilt words left left' a u.1) (none_unready words left left' a source source' sink sink' stage) c)
+complete words left left' source source' sink sink' (Refused (Unready stage)) c a n m = absurd (not_unbuilt words left left' a c.1)

@@ -10,3 +10,11 @@ pub mod OneItem
 pub mod OneTriangle
 pub mod OnlyClass
 pub mod TriangleFaces
+pub mod Heights
+pub mod Listed
+pub mod KeyValues
+pub mod GoingOn
+pub mod Settled
+pub mod Ending
+pub mod Turns
+pub mod Probed

@@ -1,26 +1,28 @@
 -- What the answers of a run mean: when each comes, and what is written.
-use Rattle.std.specs.Prelude.{◌≡◌, ◌⊎◌, ℕ, ◌≤◌, List, length, Option, None, Some, Result, Ok, Err, ⊤}
+use Rattle.std.specs.Prelude.{◌≡◌, ◌⊎◌, ℕ, ℤ, ◌≤◌, List, length, Option, None, Some, ⊤}
 use Rattle.std.specs.Io.KnownBytes.{Appends, Keeps}
 use Rattle.io_edge.specs.Causes.{Rose, AppendsPrefix}
 use Rattle.io_edge.specs.Reading.{ReadsAll, ReadsPast}
-use Rattle.io_edge.specs.declared.line_fault.LineFault.{LineFault}
-use Rattle.io_edge.specs.declared.line_fault.LineFault.TheVariants as line
 use Rattle.ntfe_model.specs.Shapes.{Shape}
+use Rattle.ntfe_model.specs.Words.{HasItem}
+use Rattle.ntfe_model.specs.Choices.{IsChoice}
+use Rattle.ntfe_model.specs.Keys.{item_limit, IsWideAt, MayOverflow, MayLimit}
 use Rattle.ntfe_model.specs.FacesText.{faces_text}
-use Rattle.ntfe_model.specs.RunText.{Form, IsRunText, nothing_kept}
+use Rattle.ntfe_model.specs.RunText.{Form, IsRunText, IsStoppedText, nothing_kept}
 use Rattle.ntfe_words.specs.CommandLine.{IsMeaning, HasMeaning}
 use Rattle.ntfe_words.specs.declared.command.Command.{Command}
 use Rattle.ntfe_words.specs.declared.command.Command.TheVariants as command
 use Rattle.ntfe_words.specs.declared.command.Options.{Options}
 use Rattle.ntfe_run.specs.Inputs.{IsInputOf, IsRefusalOf}
-use Rattle.ntfe_run.specs.PlainText.{AreTriangles, plain_form, plain_text}
+use Rattle.ntfe_run.specs.PlainText.{plain_form}
+use Rattle.ntfe_run.specs.Listed.{IsBeginning}
 use Rattle.ntfe_run.specs.Tasks.{IsBuilt, IsTaskOf}
 use Rattle.ntfe_run.specs.declared.task.Task.{Task}
 use Rattle.ntfe_run.specs.declared.task.Task.TheVariants.{Classes, Faces}
 use Rattle.ntfe_run.specs.declared.status.Refusal.{Refusal}
 use Rattle.ntfe_run.specs.declared.status.Refusal.TheVariants.{Size, Unready}
 use Rattle.ntfe_run.specs.declared.status.Status.{Status}
-use Rattle.ntfe_run.specs.declared.status.Status.TheVariants.{Done, Usage, Refused, Memory, ReadFault, WriteFault}
+use Rattle.ntfe_run.specs.declared.status.Status.TheVariants.{Done, Usage, Refused, Overflow, Limit, Memory, ReadFault, WriteFault}
 
 -- ---- the source
 
@@ -50,71 +52,94 @@ IsReadStop left left' faults faults' Memory = ⊤
 IsReadStop left left' faults faults' ReadFault = Rose faults faults'
 IsReadStop left left' faults faults' status = ⊥
 
--- ---- the answer to an input
+-- ---- what is written
 
--- what is written of the input
-abbrev pub answer_text : Task → Shape → List ℕ
-answer_text (Classes push) g = plain_text push g
-answer_text Faces g = faces_text g
+-- all of a text that has P was taken
+pub record Takes (P : List ℕ → Type 0) (taken taken' : Option (List ℕ)) : Type 0 where
+  pub text : List ℕ
+  pub is : P text
+  pub all : Appends taken taken' text
 
--- the text is what the task asks for: of classes, that of a run, which lists exactly the extendable choices
-abbrev pub IsTaskText : Task → Shape → List ℕ → Type 0
-IsTaskText (Classes push) g text = IsRunText g (plain_form push) nothing_kept None text
-IsTaskText Faces g text = text ≡ faces_text g
-
--- the task can be done: classes, where each two-face has three points
-abbrev pub IsReady : Task → Shape → Type 0
-IsReady (Classes push) g = AreTriangles g
-IsReady Faces g = ⊤
-
-abbrev pub IsStatusOf : Result (Unit {0}) LineFault → Status → Type 0
-IsStatusOf (Ok done) status = status ≡ Done
-IsStatusOf (Err line.Write) status = status ≡ WriteFault
-IsStatusOf (Err line.Memory) status = status ≡ Memory
-
--- How the answer to an input ends: it was written, or the task is not ready for the input, or a prefix was written
-abbrev pub IsAnswer : Task → Shape → Option (List ℕ) → Option (List ℕ) → ℕ → ℕ → Status → Type 0
-IsAnswer task g taken taken' faults faults' Done = IsReady task g × Appends taken taken' (answer_text task g)
-IsAnswer task g taken taken' faults faults' (Refused (Unready stage)) = (stage ≡ 5) × ¬ (IsReady task g) × Keeps taken taken'
-IsAnswer task g taken taken' faults faults' Memory = IsReady task g × AppendsPrefix taken taken' (answer_text task g)
-IsAnswer task g taken taken' faults faults' WriteFault = IsReady task g × AppendsPrefix taken taken' (answer_text task g) × Rose faults faults'
-IsAnswer task g taken taken' faults faults' status = ⊥
-
--- ---- a task
-
--- when each status ends a task: the source's bytes and faults before and after, and the sink's faults
-abbrev pub HasTaskCause : Task → Option (List ℕ) → Option (List ℕ) → ℕ → ℕ → ℕ → ℕ → Status → Type 0
-HasTaskCause task left left' source source' sink sink' Done = (g : Shape) × IsReadInput left left' g × IsReady task g
-HasTaskCause task left left' source source' sink sink' (Refused (Unready stage)) =
-    (stage ≡ 5) × ((g : Shape) × IsReadInput left left' g × ¬ (IsReady task g))
-HasTaskCause task left left' source source' sink sink' (Refused refusal) = IsReadRefusal left left' refusal
-HasTaskCause task left left' source source' sink sink' Memory = ⊤
-HasTaskCause task left left' source source' sink sink' ReadFault = Rose source source'
-HasTaskCause task left left' source source' sink sink' WriteFault = Rose sink sink'
-HasTaskCause task left left' source source' sink sink' Usage = ⊥
+-- a prefix of a text that has P was taken
+pub record TakesPrefix (P : List ℕ → Type 0) (taken taken' : Option (List ℕ)) : Type 0 where
+  pub text : List ℕ
+  pub is : P text
+  pub prefix : AppendsPrefix taken taken' text
 
 -- the input was read, and all of a text of it was taken that has P
 pub record TakesAll (P : Shape → List ℕ → Type 0) (left left' taken taken' : Option (List ℕ)) : Type 0 where
   pub input : Shape
   pub read : IsReadInput left left' input
-  pub text : List ℕ
-  pub is : P input text
-  pub all : Appends taken taken' text
+  pub takes : Takes (P input) taken taken'
 
 -- the input was read, and a prefix of a text of it was taken that has P
 pub record TakesPart (P : Shape → List ℕ → Type 0) (left left' taken taken' : Option (List ℕ)) : Type 0 where
   pub input : Shape
   pub read : IsReadInput left left' input
-  pub text : List ℕ
-  pub is : P input text
-  pub prefix : AppendsPrefix taken taken' text
+  pub takes : TakesPrefix (P input) taken taken'
 
--- what the sink took: the whole text, where all was done; else nothing, or a prefix of the text
-abbrev pub HasWritten : (Shape → List ℕ → Type 0) → Option (List ℕ) → Option (List ℕ) → Option (List ℕ) → Option (List ℕ) → Status → Type 0
-HasWritten P left left' taken taken' Done = TakesAll P left left' taken taken'
-HasWritten P left left' taken taken' Memory = Keeps taken taken' ⊎ TakesPart P left left' taken taken'
-HasWritten P left left' taken taken' WriteFault = TakesPart P left left' taken taken'
-HasWritten P left left' taken taken' status = Keeps taken taken'
+-- ---- a task
+
+-- the text is what the task asks for: of classes, that of a run, which lists exactly the extendable choices
+abbrev pub IsTaskText : Task → Shape → List ℕ → Type 0
+IsTaskText (Classes push width) g text = IsRunText g (plain_form push) nothing_kept None text
+IsTaskText Faces g text = text ≡ faces_text g
+
+-- the text is what the task asks for, or a beginning of it
+abbrev pub IsTaskStart : Task → Shape → List ℕ → Type 0
+IsTaskStart (Classes push width) g text = IsRunText g (plain_form push) nothing_kept None text ⊎ IsBeginning g (plain_form push) text
+IsTaskStart Faces g text = text ≡ faces_text g
+
+-- the text ends below this choice, on which the solver's numbers are too wide
+abbrev pub IsWideEnd : Task → List ℕ → ℕ → ℤ → Shape → List ℕ → Type 0
+IsWideEnd (Classes push width) choice step number g text =
+    MayOverflow g None width choice step number × IsStoppedText g (plain_form push) nothing_kept None choice text
+IsWideEnd Faces choice step number g text = ⊥
+
+-- the text ends below a key that comes to the item limit of this two-face
+abbrev pub IsFarEnd : Task → ℕ → Shape → List ℕ → Type 0
+IsFarEnd (Classes push width) face g text =
+    (key : List ℕ) × MayLimit g None width face key × IsStoppedText g (plain_form push) nothing_kept None key text
+IsFarEnd Faces face g text = ⊥
+
+-- how the answer to an input ends, and what was written
+abbrev pub IsAnswer : Task → Shape → Option (List ℕ) → Option (List ℕ) → ℕ → ℕ → Status → Type 0
+IsAnswer task g taken taken' faults faults' Done = Takes (IsTaskText task g) taken taken'
+IsAnswer task g taken taken' faults faults' Memory = TakesPrefix (IsTaskStart task g) taken taken'
+IsAnswer task g taken taken' faults faults' WriteFault = TakesPrefix (IsTaskStart task g) taken taken' × Rose faults faults'
+IsAnswer task g taken taken' faults faults' (Overflow choice step number) = Takes (IsWideEnd task choice step number g) taken taken'
+IsAnswer task g taken taken' faults faults' (Limit face) = Takes (IsFarEnd task face g) taken taken'
+IsAnswer task g taken taken' faults faults' status = ⊥
+
+-- the choice may be come to, and the solver's numbers are too wide on it
+abbrev pub IsTooWide : Task → List ℕ → ℕ → ℤ → Shape → Type 0
+IsTooWide (Classes push width) choice step number g = MayOverflow g None width choice step number
+IsTooWide Faces choice step number g = ⊥
+
+-- a key may be come to that ends at this two-face with the item limit, and its items exist
+abbrev pub HasTooMany : Task → ℕ → Shape → Type 0
+HasTooMany (Classes push width) face g = (key : List ℕ) × MayLimit g None width face key
+HasTooMany Faces face g = ⊥
+
+-- when each status ends a task: the source's bytes and faults before and after, and the sink's faults
+abbrev pub HasTaskCause : Task → Option (List ℕ) → Option (List ℕ) → ℕ → ℕ → ℕ → ℕ → Status → Type 0
+HasTaskCause task left left' source source' sink sink' Done = (g : Shape) × IsReadInput left left' g
+HasTaskCause task left left' source source' sink sink' (Refused refusal) = IsReadRefusal left left' refusal
+HasTaskCause task left left' source source' sink sink' (Overflow choice step number) = (g : Shape) × IsReadInput left left' g × IsTooWide task choice step number g
+HasTaskCause task left left' source source' sink sink' (Limit face) = (g : Shape) × IsReadInput left left' g × HasTooMany task face g
+HasTaskCause task left left' source source' sink sink' Memory = ⊤
+HasTaskCause task left left' source source' sink sink' ReadFault = Rose source source'
+HasTaskCause task left left' source source' sink sink' WriteFault = Rose sink sink'
+HasTaskCause task left left' source source' sink sink' Usage = ⊥
+
+-- what the sink took: the whole text, where all was done; all below it, where the listing stopped at a choice or a key; else nothing, or a prefix of the text
+abbrev pub HasWritten : Task → Option (List ℕ) → Option (List ℕ) → Option (List ℕ) → Option (List ℕ) → Status → Type 0
+HasWritten task left left' taken taken' Done = TakesAll (IsTaskText task) left left' taken taken'
+HasWritten task left left' taken taken' (Overflow choice step number) = TakesAll (IsWideEnd task choice step number) left left' taken taken'
+HasWritten task left left' taken taken' (Limit face) = TakesAll (IsFarEnd task face) left left' taken taken'
+HasWritten task left left' taken taken' Memory = Keeps taken taken' ⊎ TakesPart (IsTaskStart task) left left' taken taken'
+HasWritten task left left' taken taken' WriteFault = TakesPart (IsTaskStart task) left left' taken taken'
+HasWritten task left left' taken taken' status = Keeps taken taken'
 
 -- ---- the run
 
@@ -127,6 +152,24 @@ abbrev pub IsAnswerText : Command → Shape → List ℕ → Type 0
 IsAnswerText (command.Classes o) g text = IsRunText g (form_of_options o) nothing_kept o.limit text
 IsAnswerText command.Faces g text = text ≡ faces_text g
 IsAnswerText c g text = ⊥
+
+-- the text is what the command asks for, or a beginning of it: the head and the blocks of exactly the extendable choices up to one of them
+abbrev pub IsAnswerStart : Command → Shape → List ℕ → Type 0
+IsAnswerStart (command.Classes o) g text = IsRunText g (form_of_options o) nothing_kept o.limit text ⊎ IsBeginning g (form_of_options o) text
+IsAnswerStart command.Faces g text = text ≡ faces_text g
+IsAnswerStart c g text = ⊥
+
+-- a full choice may be come to, the solver on it reaches this number at this step, and the text has every class before the choice
+abbrev pub IsOverflowText : Command → List ℕ → ℕ → ℤ → Shape → List ℕ → Type 0
+IsOverflowText (command.Classes o) choice step number g text =
+    MayOverflow g None o.width choice step number × IsStoppedText g (form_of_options o) nothing_kept o.limit choice text
+IsOverflowText c choice step number g text = ⊥
+
+-- a key that may be come to, all of whose items exist, ends at this two-face with the item limit, and the text has every class below that key
+abbrev pub IsLimitText : Command → ℕ → Shape → List ℕ → Type 0
+IsLimitText (command.Classes o) face g text =
+    (key : List ℕ) × MayLimit g None o.width face key × IsStoppedText g (form_of_options o) nothing_kept o.limit key text
+IsLimitText c face g text = ⊥
 
 -- the words mean a command that is not built
 abbrev pub IsUnbuilt : List (List ℕ) → Type 0
@@ -145,19 +188,27 @@ IsUntouched left left' source source' = (left' ≡ left) × (source' ≡ source)
 abbrev pub HasAnswerCause : List (List ℕ) → Option (List ℕ) → Option (List ℕ) → ℕ → ℕ → ℕ → ℕ → Status → Type 0
 HasAnswerCause words left left' source source' sink sink' Usage = (¬ (HasMeaning words)) × IsUntouched left left' source source'
 HasAnswerCause words left left' source source' sink sink' Memory = ⊤
-HasAnswerCause words left left' source source' sink sink' (Refused (Unready stage)) =
-    ((stage ≡ 6) × IsUnbuilt words × IsUntouched left left' source source') ⊎ HasDone words left left' source source' sink sink' (Refused (Unready stage))
+HasAnswerCause words left left' source source' sink sink' (Refused (Unready stage)) = (stage ≡ 6) × IsUnbuilt words × IsUntouched left left' source source'
 HasAnswerCause words left left' source source' sink sink' status = HasDone words left left' source source' sink sink' status
 
 -- what the sink took in a run
 abbrev pub HasRunText : List (List ℕ) → Option (List ℕ) → Option (List ℕ) → Option (List ℕ) → Option (List ℕ) → Status → Type 0
 HasRunText words left left' taken taken' Done = (c : Command) × IsMeaning words c × TakesAll (IsAnswerText c) left left' taken taken'
+HasRunText words left left' taken taken' (Overflow choice step number) =
+    (c : Command) × IsMeaning words c × TakesAll (IsOverflowText c choice step number) left left' taken taken'
+HasRunText words left left' taken taken' (Limit face) = (c : Command) × IsMeaning words c × TakesAll (IsLimitText c face) left left' taken taken'
 HasRunText words left left' taken taken' Memory =
-    Keeps taken taken' ⊎ ((c : Command) × IsMeaning words c × TakesPart (IsAnswerText c) left left' taken taken')
-HasRunText words left left' taken taken' WriteFault = (c : Command) × IsMeaning words c × TakesPart (IsAnswerText c) left left' taken taken'
+    Keeps taken taken' ⊎ ((c : Command) × IsMeaning words c × TakesPart (IsAnswerStart c) left left' taken taken')
+HasRunText words left left' taken taken' WriteFault = (c : Command) × IsMeaning words c × TakesPart (IsAnswerStart c) left left' taken taken'
 HasRunText words left left' taken taken' status = Keeps taken taken'
 
--- the words ask for what is built and ready: the source tells its bytes, which are an input of at most 65536 bytes
+-- nothing stops the task on this input: of classes, that the solver's numbers are too wide on no choice, and that no two-face comes to the item limit
+abbrev pub IsWithinReach : Task → Shape → Type 0
+IsWithinReach (Classes push width) g =
+    ((choice : List ℕ) (step : ℕ) (number : ℤ) → IsChoice g choice → ¬ (IsWideAt g width choice step number)) × ((face : ℕ) → ¬ (HasItem g face (item_limit g)))
+IsWithinReach Faces g = ⊤
+
+-- the words ask for what is built and within reach: the source tells its bytes, which are an input of at most 65536 bytes
 pub record HasAnswer (words : List (List ℕ)) (left : Option (List ℕ)) : Type 0 where
   pub asked : Command
   pub means : IsMeaning words asked
@@ -168,7 +219,7 @@ pub record HasAnswer (words : List (List ℕ)) (left : Option (List ℕ)) : Type
   pub few : length bytes ≤ input_limit
   pub input : Shape
   pub is : IsInputOf bytes input
-  pub ready : IsReady task input
+  pub reach : IsWithinReach task input
 
 -- then all is done, unless a count of faults rose or memory ran out
 abbrev pub IsComplete : List (List ℕ) → Option (List ℕ) → ℕ → ℕ → ℕ → ℕ → Status → Type 0

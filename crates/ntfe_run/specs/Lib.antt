@@ -5,3 +5,6 @@ pub mod Messages
 pub mod Parts
 pub mod PlainText
 pub mod Tasks
+pub mod Listed
+pub mod Halts
+pub mod Probing

@@ -1,8 +1,9 @@
 -- The line that tells of each answer; none tells of `Done`.
-use Rattle.std.specs.Prelude.{ℕ, true, false, List, [], ◌++◌, codes, decimal, Option}
+use Rattle.std.specs.Prelude.{ℕ, ℤ, true, false, List, [], ◌++◌, codes, decimal, flat_map, Option}
 use Rattle.std.specs.Fmt.{signed_decimal}
 use Rattle.std.specs.Io.KnownBytes.{Appends}
 use Rattle.io_edge.specs.Causes.{Rose, AppendsPrefix}
+use Rattle.ntfe_model.specs.RunText.{spaced}
 use Rattle.pair_text.specs.declared.fault.TextFault.{TextFault}
 use Rattle.pair_text.specs.declared.fault.TextFault.TheVariants as text
 use Rattle.reflexive_pair.specs.declared.fault.PairFault.{PairFault}
@@ -12,7 +13,7 @@ use Rattle.lattice_points.specs.declared.fault.PointFault.TheVariants as point
 use Rattle.ntfe_run.specs.declared.status.Refusal.{Refusal}
 use Rattle.ntfe_run.specs.declared.status.Refusal.TheVariants.{Size, Text, Pair, Points, Unready}
 use Rattle.ntfe_run.specs.declared.status.Status.{Status}
-use Rattle.ntfe_run.specs.declared.status.Status.TheVariants.{Done, Usage, Refused, Memory, ReadFault, WriteFault}
+use Rattle.ntfe_run.specs.declared.status.Status.TheVariants.{Done, Usage, Refused, Overflow, Limit, Memory, ReadFault, WriteFault}
 
 -- `line L` and what is wrong with it
 abbrev pub line_message : ℕ → List ℕ → List ℕ
@@ -56,11 +57,26 @@ refusal_message (Pair fault) = pair_message fault
 refusal_message (Points fault) = point_message fault
 refusal_message (Unready stage) = codes "not built: stage " ++ decimal stage
 
+-- the numbers, one space before each
+abbrev pub spaced_numbers : List ℕ → List ℕ
+spaced_numbers ns = flat_map (λ n. spaced (decimal n)) ns
+
+abbrev pub overflow_head : ℕ → ℤ → List ℕ
+overflow_head step number = codes "overflow at step " ++ (decimal step ++ (codes " with " ++ (signed_decimal number ++ codes " in choice")))
+
+abbrev pub overflow_message : List ℕ → ℕ → ℤ → List ℕ
+overflow_message choice step number = overflow_head step number ++ spaced_numbers choice
+
+abbrev pub limit_message : ℕ → List ℕ
+limit_message face = codes "face " ++ (decimal face ++ codes " has more than 1048576 items")
+
 -- what tells of an answer other than `Done`
 abbrev pub answer_message : Status → List ℕ
 answer_message Done = []
 answer_message Usage = codes "usage: classes, resume, faces or demo N, with --workers, --limit, --width, --push, --stars"
 answer_message (Refused refusal) = refusal_message refusal
+answer_message (Overflow choice step number) = overflow_message choice step number
+answer_message (Limit face) = limit_message face
 answer_message Memory = out_of_memory
 answer_message ReadFault = codes "read failed"
 answer_message WriteFault = codes "write failed"

@@ -1,5 +1,5 @@
 -- What is built of the commands, and what is done for each.
-use Rattle.std.specs.Prelude.{◌≡◌, false, None, ⊤}
+use Rattle.std.specs.Prelude.{◌≡◌, ◌≤◌, false, None, ⊤}
 use Rattle.ntfe_words.specs.declared.command.Command.{Command}
 use Rattle.ntfe_words.specs.declared.command.Command.TheVariants as command
 use Rattle.ntfe_run.specs.declared.task.Task.{Task}
@@ -14,6 +14,11 @@ IsBuilt (command.Demo n workers width) = ⊥
 
 -- the task is what is done for the command
 abbrev pub IsTaskOf : Command → Task → Type 0
-IsTaskOf (command.Classes o) (Classes push) = (o.limit ≡ None) × (o.stars ≡ false) × (push ≡ o.push)
+IsTaskOf (command.Classes o) (Classes push width) = (o.limit ≡ None) × (o.stars ≡ false) × (push ≡ o.push) × (width ≡ o.width)
 IsTaskOf command.Faces Faces = ⊤
 IsTaskOf c task = ⊥
+
+-- the solver's width is one that it takes
+abbrev pub HasWidth : Task → Type 0
+HasWidth (Classes push width) = (1 ≤ width) × (width ≤ 62)
+HasWidth Faces = ⊤

@@ -1,10 +1,15 @@
-//! The text of the classes, where each two-face has three points.
-ghost use Rattle.std.specs.Prelude.{◌≡◌, ◌↔◌, IsTrue, IfOk, pos, false, replicate, ◌++◌};
+//! The text of the classes.
+ghost use Rattle.std.specs.Prelude.{◌≡◌, ◌<◌, ◌≤◌, ◌↔◌, IsTrue, IfOk, pos, false, length, replicate, ◌++◌};
 ghost use Rattle.io_edge.specs.Lines.{WritesText};
 ghost use Rattle.class_text.specs.Forms.{form_of};
+ghost use Rattle.ntfe_model.specs.Shapes.{IsShape};
 ghost use Rattle.ntfe_model.specs.RunText.{head_text, block_text, end_line};
+ghost use Rattle.ntfe_run.specs.Answers.{IsAnswer};
+ghost use Rattle.ntfe_run.specs.Halts.{status_of_listing, IsHaltOf};
+ghost use Rattle.ntfe_run.specs.declared.task.Task.{Task};
 ghost use Rattle.ntfe_run.specs.PlainText.{AreTriangles, IsPlainForm, plain_block, plain_text};
 
+use crate::listing::{Halt, write_blocks};
 use class_text::{TextForm, write_class, write_end, write_head};
 use io_edge::{LineFault, Sink};
 use ntfe_model::{Choice, Geometry, Heights, List, Push};
@@ -36,7 +41,8 @@ fn zero_heights(alloc: Global, points: usize) -> Result<Heights, AllocError>
 
 /// What the text depends on beside the classes.
 fn text_form(alloc: Global, push: Push, geometry: &Geometry) -> Result<TextForm, AllocError>
-    ensures { IfOk result (λ f. IsPlainForm push geometry.now f) }
+    ensures form { IfOk result (λ f. IsPlainForm push geometry.now f) }
+    ensures shape { IsShape geometry.now }
 {
     let pair = geometry.pair().try_clone(alloc)?;
     Ok(TextForm {
@@ -74,17 +80,54 @@ fn write_text<K: Sink>(alloc: Global, form: &TextForm, out: &mut K) -> Result<()
     write_end(alloc, false, 1, out)
 }
 
-/// Writes the text of the classes, where each two-face has three points: one class, with items 0 and heights 0.
+/// The end of a listing that ends with the writing of this text.
+fn halted(written: Result<(), LineFault>) -> Result<(), Halt>
+    ensures { IsHaltOf written result }
+{
+    match written {
+        Ok(()) => Ok(()),
+        Err(LineFault::Write) => Err(Halt::Write),
+        Err(LineFault::Memory) => Err(Halt::Memory),
+    }
+}
+
+/// Writes the head, the blocks and the last line.
+fn write_listing<K: Sink>(
+    alloc: Global,
+    form: &TextForm,
+    width: u8,
+    geometry: &Geometry,
+    out: &mut K,
+) -> Result<(), Halt>
+    requires plain { IsPlainForm form.now.push geometry.now form.now }
+    requires low { 1 ≤ width }
+    requires high { width ≤ 62 }
+    requires some { 0 < length geometry.now.faces }
+    ensures { IsAnswer (Task.Classes form.now.push width) geometry.now (K.taken out.old) (K.taken out.new) (K.faults out.old) (K.faults out.new) (status_of_listing result) }
+{
+    halted(write_head(alloc, form, out))?;
+    let count = write_blocks(alloc, form, width, geometry, out)?;
+    halted(write_end(alloc, false, count, out))
+}
+
+/// Writes the text of the classes, with solver numbers below 2^width in size. Where each two-face has
+/// three points there is one class, with items 0 and heights 0.
 pub fn write_classes<K: Sink>(
     alloc: Global,
     push: Push,
+    width: u8,
     geometry: &Geometry,
     out: &mut K,
-) -> Result<(), LineFault>
-    ensures { WritesText (K.taken out.old) (K.taken out.new) (K.faults out.old) (K.faults out.new) result (plain_text push geometry.now) }
+) -> Result<(), Halt>
+    requires low { 1 ≤ width }
+    requires high { width ≤ 62 }
+    ensures { IsAnswer (Task.Classes push width) geometry.now (K.taken out.old) (K.taken out.new) (K.faults out.old) (K.faults out.new) (status_of_listing result) }
 {
     let Ok(form) = text_form(alloc, push, geometry) else {
-        return Err(LineFault::Memory);
+        return Err(Halt::Memory);
     };
-    write_text(alloc, &form, out)
+    if are_triangles(geometry) {
+        return halted(write_text(alloc, &form, out));
+    }
+    write_listing(alloc, &form, width, geometry, out)
 }

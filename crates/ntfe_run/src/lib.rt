@@ -4,9 +4,11 @@
 mod classes;
 mod faces;
 mod inputs;
+mod listing;
 mod messages;
 mod numbered;
 mod part;
+mod probing;
 mod status;
 mod task;
 mod top;

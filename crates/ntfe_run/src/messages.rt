@@ -1,7 +1,8 @@
 //! The line on standard error that tells how a run ended.
-ghost use Rattle.std.specs.Prelude.{◌≡◌, ◌++◌, codes, IfErr};
+ghost use Rattle.std.specs.Prelude.{◌≡◌, ◌++◌, codes, decimal, IfErr};
 ghost use Rattle.io_edge.specs.Lines.{WritesText};
-ghost use Rattle.ntfe_run.specs.Messages.{line_message, equal_message, text_message, pair_message, point_message, refusal_message, answer_message, message_line};
+ghost use Rattle.ntfe_model.specs.RunText.{spaced};
+ghost use Rattle.ntfe_run.specs.Messages.{spaced_numbers, overflow_head, overflow_message, limit_message, line_message, equal_message, text_message, pair_message, point_message, refusal_message, answer_message, message_line};
 
 use crate::part::Part::{Number, Signed, Text};
 use crate::part::write_parts;
@@ -163,6 +164,71 @@ fn write_refusal_message<E: Sink>(refusal: &Refusal, err: &mut E) -> Result<(), 
     }
 }
 
+/// Writes a space and a number.
+fn write_spaced<E: Sink>(number: u32, err: &mut E) -> Result<(), LineFault>
+    ensures text { WritesText (E.taken err.old) (E.taken err.new) (E.faults err.old) (E.faults err.new) result (spaced (decimal number)) }
+    ensures fault { IfErr result (λ e. e ≡ LineFault.Write) }
+{
+    write_parts(&[Text(" "), Number(u64::from(number))], err)
+}
+
+/// Writes numbers, one space before each.
+fn write_numbers<E: Sink>(numbers: &[u32], err: &mut E) -> Result<(), LineFault>
+    ensures text { WritesText (E.taken err.old) (E.taken err.new) (E.faults err.old) (E.faults err.new) result (spaced_numbers numbers.now) }
+    ensures fault { IfErr result (λ e. e ≡ LineFault.Write) }
+{
+    for number in numbers {
+        write_spaced(*number, err)?;
+    }
+    Ok(())
+}
+
+/// Writes which number the solver came to at which step.
+fn write_overflow_head<E: Sink>(step: u64, number: i128, err: &mut E) -> Result<(), LineFault>
+    ensures text { WritesText (E.taken err.old) (E.taken err.new) (E.faults err.old) (E.faults err.new) result (overflow_head step number) }
+    ensures fault { IfErr result (λ e. e ≡ LineFault.Write) }
+{
+    write_parts(
+        &[
+            Text("overflow at step "),
+            Number(step),
+            Text(" with "),
+            Signed(number),
+            Text(" in choice"),
+        ],
+        err,
+    )
+}
+
+/// Writes on which choice the solver's numbers are too wide.
+fn write_overflow_message<E: Sink>(
+    choice: &[u32],
+    step: u64,
+    number: i128,
+    err: &mut E,
+) -> Result<(), LineFault>
+    ensures text { WritesText (E.taken err.old) (E.taken err.new) (E.faults err.old) (E.faults err.new) result (overflow_message choice.now step number) }
+    ensures fault { IfErr result (λ e. e ≡ LineFault.Write) }
+{
+    write_overflow_head(step, number, err)?;
+    write_numbers(choice, err)
+}
+
+/// Writes which two-face has too many items.
+fn write_limit_message<E: Sink>(face: u32, err: &mut E) -> Result<(), LineFault>
+    ensures text { WritesText (E.taken err.old) (E.taken err.new) (E.faults err.old) (E.faults err.new) result (limit_message face) }
+    ensures fault { IfErr result (λ e. e ≡ LineFault.Write) }
+{
+    write_parts(
+        &[
+            Text("face "),
+            Number(u64::from(face)),
+            Text(" has more than 1048576 items"),
+        ],
+        err,
+    )
+}
+
 /// Writes what tells of an answer other than `Done`.
 fn write_answer_message<E: Sink>(status: &Status, err: &mut E) -> Result<(), LineFault>
     ensures text { WritesText (E.taken err.old) (E.taken err.new) (E.faults err.old) (E.faults err.new) result (answer_message status.now) }
@@ -172,6 +238,12 @@ fn write_answer_message<E: Sink>(status: &Status, err: &mut E) -> Result<(), Lin
         Status::Done => Ok(()),
         Status::Usage => write_text(USAGE, err),
         Status::Refused(refusal) => write_refusal_message(refusal, err),
+        Status::Overflow {
+            choice,
+            step,
+            number,
+        } => write_overflow_message(choice.0.as_slice(), *step, *number, err),
+        Status::Limit { face } => write_limit_message(*face, err),
         Status::Memory => write_text("out of memory", err),
         Status::ReadFault => write_text("read failed", err),
         Status::WriteFault => write_text("write failed", err),
@@ -197,6 +269,8 @@ pub fn write_message<E: Sink>(status: &Status, err: &mut E) -> Result<(), LineFa
         Status::Done => Ok(()),
         Status::Usage
         | Status::Refused(_)
+        | Status::Overflow { .. }
+        | Status::Limit { .. }
         | Status::Memory
         | Status::ReadFault
         | Status::WriteFault => write_told(status, err),

@@ -3,6 +3,7 @@ ghost use Rattle.std.specs.Prelude.{◌≡◌};
 ghost use Rattle.ntfe_run.specs.Codes.{code_of};
 
 use lattice_points::PointFault;
+use ntfe_model::Choice;
 use pair_text::TextFault;
 use reflexive_pair::PairFault;
 
@@ -22,7 +23,7 @@ pub enum Refusal {
 }
 
 /// How a run ends.
-#[derive(Drop, Debug, PartialEq, Eq)]
+#[derive(Drop)]
 pub enum Status {
     /// The whole answer was written.
     Done,
@@ -30,6 +31,14 @@ pub enum Status {
     Usage,
     /// The input was refused.
     Refused(Refusal),
+    /// The solver's numbers are too wide on this choice: at this step it comes to this number.
+    Overflow {
+        choice: Choice,
+        step: u64,
+        number: i128,
+    },
+    /// The two-face, from 0, has more items than the item limit.
+    Limit { face: u32 },
     /// There was no memory.
     Memory,
     /// The source failed.
@@ -47,6 +56,8 @@ impl Status {
             Status::Done => 0,
             Status::Usage => 2,
             Status::Refused(_) => 3,
+            Status::Overflow { .. } => 4,
+            Status::Limit { .. } => 5,
             Status::Memory => 6,
             Status::ReadFault => 7,
             Status::WriteFault => 8,

@@ -8,8 +8,8 @@ use ntfe_words::Command;
 /// What is to be done.
 #[derive(Clone, Copy, Drop)]
 pub enum Task {
-    /// List the classes.
-    Classes { push: Push },
+    /// List the classes, with solver numbers below 2^width in size.
+    Classes { push: Push, width: u8 },
     /// List the points and two-faces.
     Faces,
 }
@@ -20,7 +20,10 @@ pub fn task_of(command: Command) -> Option<Task>
 {
     match command {
         Command::Classes(options) if options.limit.is_none() && !options.stars => {
-            Some(Task::Classes { push: options.push })
+            Some(Task::Classes {
+                push: options.push,
+                width: options.width,
+            })
         }
         Command::Faces => Some(Task::Faces),
         _ => None,

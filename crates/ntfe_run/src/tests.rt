@@ -107,6 +107,69 @@ dual 5\n\
 -1 -1 4 -601\n\
 -1 -1 -1 904\n";
 
+const PYRAMID: &str = "\
+vertices 7\n\
+1 0 0 0\n\
+0 1 0 0\n\
+1 0 1 0\n\
+0 1 1 0\n\
+-1 -1 -1 0\n\
+0 0 0 1\n\
+0 0 0 -1\n\
+dual 10\n\
+-1 -1 0 1\n\
+-1 -1 0 -1\n\
+-1 -1 3 1\n\
+-1 -1 3 -1\n\
+2 2 -3 1\n\
+2 2 -3 -1\n\
+-1 2 0 1\n\
+-1 2 0 -1\n\
+2 -1 0 1\n\
+2 -1 0 -1\n";
+
+const PYRAMID_CLASSES: &str = "\
+push up\n\
+class 0 0 0 0 0 0 0 0 0 0 0 0 0 0 0 0 0 0 0 0 0\n\
+heights 0 0 0 1 0 0 0\n\
+class 1 0 0 0 0 0 0 0 0 0 0 0 0 0 0 0 0 0 0 0 0\n\
+heights 0 0 0 -1 0 0 0\n\
+end 2\n";
+
+const SQUARES: &str = "\
+vertices 8\n\
+-1 -1 0 0\n\
+-1 1 0 0\n\
+1 -1 0 0\n\
+1 1 0 0\n\
+0 0 -1 -1\n\
+0 0 -1 1\n\
+0 0 1 -1\n\
+0 0 1 1\n\
+dual 16\n\
+-1 0 -1 0\n\
+-1 0 0 -1\n\
+-1 0 0 1\n\
+-1 0 1 0\n\
+0 -1 -1 0\n\
+0 -1 0 -1\n\
+0 -1 0 1\n\
+0 -1 1 0\n\
+0 1 -1 0\n\
+0 1 0 -1\n\
+0 1 0 1\n\
+0 1 1 0\n\
+1 0 -1 0\n\
+1 0 0 -1\n\
+1 0 0 1\n\
+1 0 1 0\n";
+
+const SQUARES_CLASS: &str = "\
+push up\n\
+class 0 0 0 0 0 0 0 0 0 0 0 0 0 0 0 0 0 0 0 0 0 0 0 0 0 0 0 0 0 0 0 0\n\
+heights 0 0 1 0 0 0 1 0 0 1 0 0 0 1 0 0\n\
+end 1\n";
+
 const USAGE: &str =
     "ntfe: usage: classes, resume, faces or demo N, with --workers, --limit, --width, --push, --stars\n";
 
@@ -172,6 +235,8 @@ fn texts_of_small_pairs(rt: HostRuntime) -> Result<(), AllocError> {
     for (word, pair, head, text) in [
         ("classes", SIMPLEX, "ntfe 1\n", SIMPLEX_CLASS),
         ("classes", CROSS, "ntfe 1\n", CROSS_CLASS),
+        ("classes", PYRAMID, "ntfe 1\n", PYRAMID_CLASSES),
+        ("classes", SQUARES, "ntfe 1\n", SQUARES_CLASS),
         ("faces", SIMPLEX, "", SIMPLEX_FACES),
     ] {
         let all = run_on(&rt, &[word], pair, 9999)?;
@@ -300,6 +365,16 @@ fn the_push_in_the_head(rt: HostRuntime) -> Result<(), AllocError> {
     let want = format!(in rt.alloc(); "ntfe 1\n{SIMPLEX}{class}")?;
     assert_eq!(rt; all.code, 0);
     assert!(rt; all.out.bytes() == want.as_bytes());
+    Ok(())
+}
+
+#[test]
+fn numbers_that_are_too_wide(rt: HostRuntime) -> Result<(), AllocError> {
+    let stopped = run_on(&rt, &["classes", "--width=1"], SQUARES, 9999)?;
+    let zeros = "0 0 0 0 0 0 0 0 0 0 0 0 0 0 0 0 0 0 0 0 0 0 0 0 0 0 0 0 0 0 0 0";
+    let want = format!(in rt.alloc(); "ntfe: overflow at step 0 with -2 in choice {zeros}\n")?;
+    assert_eq!(rt; stopped.code, 4);
+    assert!(rt; stopped.err.bytes() == want.as_bytes());
     Ok(())
 }
 

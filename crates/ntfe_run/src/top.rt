@@ -1,11 +1,14 @@
 //! The top call.
-ghost use Rattle.std.specs.Prelude.{◌≤◌, map, string_bytes, IfOk, IfErr};
-ghost use Rattle.ntfe_run.specs.Answers.{IsReadInput, IsReadStop, HasTaskCause, HasWritten, IsTaskText, IsStatusOf, IsAnswer, HasAnswerCause, HasRunText, IsComplete};
+ghost use Rattle.std.specs.Prelude.{◌≡◌, ◌≤◌, map, string_bytes, IfOk, IfErr};
+ghost use Rattle.ntfe_run.specs.Answers.{IsReadInput, IsReadStop, HasTaskCause, HasWritten, IsAnswer, HasAnswerCause, HasRunText, IsComplete};
+ghost use Rattle.ntfe_run.specs.Halts.{IsStatusOf, status_of_listing as listing_status};
+ghost use Rattle.ntfe_run.specs.Tasks.{HasWidth};
 ghost use Rattle.ntfe_run.specs.Messages.{message_line, TellsMessage};
 
-use crate::classes::{are_triangles, write_classes};
+use crate::classes::write_classes;
 use crate::faces::write_faces;
 use crate::inputs::{Stop, geometry_of};
+use crate::listing::Halt;
 use crate::messages::write_message;
 use crate::status::{Refusal, Status};
 use crate::task::{Task, task_of};
@@ -40,7 +43,7 @@ fn read_geometry<S: Source>(alloc: Global, source: &mut S) -> Result<Geometry, S
     }
 }
 
-/// The status after the writing of the answer.
+/// The status after the writing of the points and two-faces.
 fn status_of(written: Result<(), LineFault>) -> Status
     ensures { IsStatusOf written result }
 {
@@ -48,6 +51,27 @@ fn status_of(written: Result<(), LineFault>) -> Status
         Ok(()) => Status::Done,
         Err(LineFault::Write) => Status::WriteFault,
         Err(LineFault::Memory) => Status::Memory,
+    }
+}
+
+/// The status after a listing of the classes.
+fn status_of_listing(listed: Result<(), Halt>) -> Status
+    ensures { result ≡ listing_status listed }
+{
+    match listed {
+        Ok(()) => Status::Done,
+        Err(Halt::Write) => Status::WriteFault,
+        Err(Halt::Memory) => Status::Memory,
+        Err(Halt::Overflow {
+            choice,
+            step,
+            number,
+        }) => Status::Overflow {
+            choice,
+            step,
+            number,
+        },
+        Err(Halt::Limit { face }) => Status::Limit { face },
     }
 }
 
@@ -59,20 +83,25 @@ fn list_faces<K: Sink>(alloc: Global, geometry: &Geometry, out: &mut K) -> Statu
 }
 
 /// Writes the classes.
-fn list_classes<K: Sink>(alloc: Global, push: Push, geometry: &Geometry, out: &mut K) -> Status
-    ensures { IsAnswer (Task.Classes push) geometry.now (K.taken out.old) (K.taken out.new) (K.faults out.old) (K.faults out.new) result }
+fn list_classes<K: Sink>(
+    alloc: Global,
+    push: Push,
+    width: u8,
+    geometry: &Geometry,
+    out: &mut K,
+) -> Status
+    requires low { 1 ≤ width }
+    requires high { width ≤ 62 }
+    ensures { IsAnswer (Task.Classes push width) geometry.now (K.taken out.old) (K.taken out.new) (K.faults out.old) (K.faults out.new) result }
 {
-    if are_triangles(geometry) {
-        status_of(write_classes(alloc, push, geometry, out))
-    } else {
-        Status::Refused(Refusal::Unready { stage: 5 })
-    }
+    status_of_listing(write_classes(alloc, push, width, geometry, out))
 }
 
 /// Does the task on the source and writes its answer.
 fn do_task<S: Source, K: Sink>(alloc: Global, task: Task, source: &mut S, out: &mut K) -> Status
+    requires { HasWidth task }
     ensures cause { HasTaskCause task (S.left source.old) (S.left source.new) (S.faults source.old) (S.faults source.new) (K.faults out.old) (K.faults out.new) result }
-    ensures written { HasWritten (IsTaskText task) (S.left source.old) (S.left source.new) (K.taken out.old) (K.taken out.new) result }
+    ensures written { HasWritten task (S.left source.old) (S.left source.new) (K.taken out.old) (K.taken out.new) result }
 {
     let geometry = match read_geometry(alloc, source) {
         Ok(geometry) => geometry,
@@ -80,7 +109,7 @@ fn do_task<S: Source, K: Sink>(alloc: Global, task: Task, source: &mut S, out: &
     };
     match task {
         Task::Faces => list_faces(alloc, &geometry, out),
-        Task::Classes { push } => list_classes(alloc, push, &geometry, out),
+        Task::Classes { push, width } => list_classes(alloc, push, width, &geometry, out),
     }
 }
 
