@@ -3,3 +3,4 @@ pub mod Refuting
 pub mod CoefficientLemmas
 pub mod BalanceLemmas
 pub mod PartFolds
+pub mod TermLemmas

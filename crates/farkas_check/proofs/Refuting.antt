@@ -1,14 +1,11 @@
 -- A certificate refutes every choice that begins with the head that it blocks: the positive combination of positive folds is not zero.
-use Rattle.std.proofs.Common.{◌≡◌, ℕ, zero, suc, ◌+◌, ◌<◌, ◌≤◌, ◌⊎◌, inl, inr, ◌&&◌, refl, sym, ap, ◌∙◌, subst, arith, ℤ, pos, negsuc, ◌+ℤ◌, ◌*ℤ◌, ◌<ℤ◌, ◌≤ℤ◌, List, [], ◌∷◌, length, map, get_or}
-use Rattle.std.specs.Prelude.{All, Contains}
-use Rattle.std.specs.List.{range_with_len}
+use Rattle.std.proofs.Common.{◌≡◌, ℕ, zero, suc, ◌<◌, ◌≤◌, ◌⊎◌, inl, inr, sym, ap, ◌∙◌, subst, arith, ℤ, pos, negsuc, ◌+ℤ◌, ◌*ℤ◌, ◌<ℤ◌, ◌≤ℤ◌, List, [], ◌∷◌, length, get_or}
+use Rattle.std.specs.Prelude.{All}
 use Rattle.std.proofs.lemmas.Int.{ints}
 use Rattle.std.proofs.lemmas.List.{get_or-take}
-use Rattle.std.proofs.lemmas.List.Elements.{All-contains, All-filter, All-weaker, All-same, All-head, All-tail}
-use Rattle.ntfe_model.specs.Shapes.{Shape, IsShape, face_at, no_face}
-use Rattle.ntfe_model.specs.Points.{points_on_both, is_tight, place_of_point, IsFaceOf}
-use Rattle.ntfe_model.specs.Pairs.{entry}
-use Rattle.ntfe_model.specs.Charts.{Patch, patch_at, spot_numbers, IsOf}
+use Rattle.std.proofs.lemmas.List.Elements.{All-weaker, All-head, All-tail}
+use Rattle.ntfe_model.specs.Shapes.{Shape, IsShape}
+use Rattle.ntfe_model.specs.Charts.{Patch, patch_at, IsOf}
 use Rattle.ntfe_model.specs.Words.{IsItem}
 use Rattle.ntfe_model.specs.Choices.{IsExtendable, IsFoldOf, AreOpposite}
 use Rattle.ntfe_model.specs.Certificates.{fold_coefficient, total_coefficient, part_at, no_part, IsTermOf, IsCertificate, IsBlockedBy}

@@ -2,7 +2,7 @@
 use Rattle.std.specs.Prelude.{ℕ, ◌<◌, ◌≤◌, length, Option, All}
 use Rattle.ntfe_model.specs.Shapes.{Shape}
 use Rattle.ntfe_model.specs.Charts.{patch_at}
-use Rattle.ntfe_model.specs.Words.{IsItem}
+use Rattle.ntfe_model.specs.Words.{IsItem, HasItem}
 use Rattle.ntfe_model.specs.Choices.{IsFoldOf}
 use Rattle.ntfe_model.specs.Keys.{item_limit}
 use Rattle.ntfe_model.specs.Books.{KeepsItem}
@@ -18,6 +18,10 @@ KeepsPart keeps g p = (p.face < length g.faces) × (p.item ≤ item_limit g) × 
 -- each part's item is kept
 abbrev pub KeepsParts : (ℕ → ℕ → Option Triangulation) → Shape → Nogood → Type 0
 KeepsParts keeps g n = All (KeepsPart keeps g) n.parts
+
+-- there is such a two-face, and it has such an item
+abbrev pub HasItemOf : Shape → Part → Type 0
+HasItemOf g p = (p.face < length g.faces) × HasItem g p.face p.item
 
 -- the form is a fold of the part's item
 abbrev pub IsFoldOfPart : Shape → Part → Fold → Type 0

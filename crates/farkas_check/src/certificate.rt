@@ -7,8 +7,8 @@ ghost use Rattle.ntfe_model.specs.Keys.{BeginsWith};
 ghost use Rattle.farkas_check.specs.Parts.{KeepsParts};
 
 use crate::parts::{are_kept, are_rising};
-use crate::totals::are_cancelling;
 use crate::terms::are_terms;
+use crate::totals::are_cancelling;
 use ntfe_model::{Book, Geometry, Nogood};
 
 /// Whether the nogood is a certificate of the geometry, the items of whose parts the book keeps: the
@@ -26,7 +26,10 @@ pub fn verify<B: Book>(nogood: &Nogood, geometry: &Geometry, book: &B) -> bool
     if terms.is_empty() || terms.len() > u32::MAX as usize {
         return false;
     }
-    if !are_rising(parts) || !are_kept(parts, geometry, book) {
+    if !are_rising(parts) {
+        return false;
+    }
+    if !are_kept(parts, geometry, book) {
         return false;
     }
     if !are_terms(nogood, geometry, book) {

@@ -1,6 +1,6 @@
 //! Whether the parts of a nogood rise, and whether a book keeps their items.
 ghost use Rattle.std.specs.Prelude.{◌≡◌, ◌<◌, ◌≤◌, ℕ, true, false, All, AllPairs};
-ghost use Rattle.farkas_check.specs.Parts.{KeepsPart};
+ghost use Rattle.farkas_check.specs.Parts.{KeepsPart, HasItemOf};
 
 use ntfe_model::{Book, Geometry, ITEM_LIMIT, Part};
 
@@ -21,6 +21,7 @@ pub fn are_rising(parts: &[Part]) -> bool
 fn is_kept<B: Book>(part: &Part, geometry: &Geometry, book: &B) -> bool
     requires { B.shape book.now ≡ geometry.now }
     ensures when_true { result ≡ true → KeepsPart (B.keeps book.now) geometry.now part.now }
+    ensures exists { result ≡ true → HasItemOf geometry.now part.now }
     ensures when_false { result ≡ false → ¬ (KeepsPart (B.keeps book.now) geometry.now part.now) }
 {
     if part.face as usize >= geometry.faces().len() {
@@ -36,6 +37,7 @@ fn is_kept<B: Book>(part: &Part, geometry: &Geometry, book: &B) -> bool
 pub fn are_kept<B: Book>(parts: &[Part], geometry: &Geometry, book: &B) -> bool
     requires { B.shape book.now ≡ geometry.now }
     ensures when_true { result ≡ true → All (KeepsPart (B.keeps book.now) geometry.now) parts.now }
+    ensures exist { result ≡ true → All (HasItemOf geometry.now) parts.now }
     ensures when_false { result ≡ false → ¬ (All (KeepsPart (B.keeps book.now) geometry.now) parts.now) }
 {
     for part in parts {
