@@ -7,15 +7,16 @@ use crate::balance::is_balanced;
 use crate::triples::has_thirds;
 use ntfe_model::{Book, Fold, Geometry, Part};
 
+/// No factor of a fold is larger, since the coordinates of points are of size at most 1023. So the
+/// sums of the terms are exact.
+const FACTOR_LIMIT: u64 = 4094;
+
 /// Whether both factors are small.
 fn has_small_factors(fold: &Fold) -> bool
     ensures when_true { result ≡ true → IsSmallFold fold.now }
     ensures when_false { result ≡ false → ¬ (IsSmallFold fold.now) }
 {
-    if fold.alpha < -4094 || fold.alpha > 4094 {
-        return false;
-    }
-    -4094 <= fold.beta && fold.beta <= 4094
+    fold.alpha.unsigned_abs() <= FACTOR_LIMIT && fold.beta.unsigned_abs() <= FACTOR_LIMIT
 }
 
 /// Whether the form is a fold of the part's item, which the book keeps.

@@ -1,4 +1,4 @@
-use Rattle.std.proofs.Common.{◌≡◌, ℕ, ℤ, ◌∙◌, sym, ap, List, [], ◌∷◌, refl, subst, ◌+ℤ◌, ◌-ℤ◌, w64, to_z, of_z, unsigned_abs, ◌≤◌, pos, arith}
+use Rattle.std.proofs.Common.{◌==◌, cond, false, true, Bool, ◌≡◌, ℕ, ℤ, ◌∙◌, sym, ap, List, [], ◌∷◌, refl, subst, ◌+ℤ◌, ◌-ℤ◌, w64, to_z, of_z, unsigned_abs, ◌≤◌, pos, arith}
 use Rattle.ntfe_nums.proofs.Ring.{Expression, value}
 use Rattle.ntfe_nums.proofs.Ring.Expression.{var, plus, minus}
 use Rattle.ntfe_nums.proofs.Machine.{AreBounded, exact, fits, value-size}
@@ -6,8 +6,15 @@ use Rattle.ntfe_model.specs.Certificates.{where_equal, fold_coefficient}
 use Rattle.ntfe_model.specs.declared.nogood.Fold.{Fold}
 use Rattle.farkas_check.specs.Folds.{IsSmallFold}
 use Rattle.farkas_check.proofs.BalanceLemmas.{factor_word}
-use Rattle.farkas_check.proofs.CoefficientLemmas.{where_size}
+use Rattle.std.proofs.lemmas.Int.{ints}
 use Rattle.farkas_check.proofs.totals.coefficient.Goals as goal
+
+where_size : (j k : ℕ) (z : ℤ) (m : ℕ) → unsigned_abs z ≤ m → unsigned_abs (where_equal j k z) ≤ m
+where_size j k z m l = by (j == k)
+  where
+    by : (b : Bool) → unsigned_abs (cond b z (pos 0)) ≤ m
+    by true = l
+    by false = omega (arith, ints, l)
 
 abbrev vars : ℤ → ℤ → ℤ → ℤ → List ℤ
 vars c d a b = c ∷ d ∷ a ∷ b ∷ []
