@@ -6,6 +6,9 @@ ghost use Rattle.farkas_check.specs.Parts.{KeepsParts};
 use crate::folds::is_fold;
 use ntfe_model::{Book, Geometry, Nogood, Term};
 
+/// The least multiplier of a term.
+const LEAST_TIMES: i64 = 1;
+
 /// Whether the term names a part, a fold of its item, and a multiplier of at least 1.
 fn is_term<B: Book>(term: &Term, nogood: &Nogood, geometry: &Geometry, book: &B) -> bool
     requires shape { B.shape book.now ≡ geometry.now }
@@ -13,7 +16,7 @@ fn is_term<B: Book>(term: &Term, nogood: &Nogood, geometry: &Geometry, book: &B)
     ensures when_true { result ≡ true → IsTermOf geometry.now nogood.now term.now }
     ensures when_false { result ≡ false → ¬ (IsTermOf geometry.now nogood.now term.now) }
 {
-    if term.times < 1 {
+    if term.times < LEAST_TIMES {
         return false;
     }
     let parts = nogood.parts.as_slice();

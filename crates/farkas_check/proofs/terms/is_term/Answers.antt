@@ -8,7 +8,7 @@ returns-clause-when_true g c = λ e.
     let t = c.args.term.now in
     let f : FitsSigned w64 t.times = search rules in
     let q = to_z-of_z f in
-    let h = c.if-term-lt1.false in
+    let h = c.if-term-lt-LEAST_TIMES.false in
     let m : pos 1 ≤ℤ t.times = grind (arith, ints, q, h) in
     term_of_part c.args.geometry.now c.args.nogood.now c.as_slice-parts.result.now c.as_slice-parts.ensures t c.if-place-parts.false (c.is_fold.ensures.when_true e) m
 
