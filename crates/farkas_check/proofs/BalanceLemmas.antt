@@ -11,7 +11,8 @@ use Rattle.ntfe_model.specs.Lists.{IsNumberOf}
 use Rattle.ntfe_model.specs.Points.{place_of_point, no_point}
 use Rattle.ntfe_model.specs.declared.point.Point.{Point}
 use Rattle.ntfe_model.specs.declared.nogood.Fold.{Fold}
-use Rattle.farkas_check.specs.Folds.{IsBalanced}
+use Rattle.ntfe_model.specs.Pairs.{IsSmall}
+use Rattle.farkas_check.specs.Folds.{IsSmallPoint, IsBalanced}
 
 -- c + d = m a + n b, in the coordinate at this place of the lists
 abbrev pub IsSumAt : List ℤ → List ℤ → List ℤ → List ℤ → ℤ → ℤ → ℕ → Type 0
@@ -81,6 +82,9 @@ module _ (a b c d : List ℤ) (m n : ℤ) (i : ℕ) (ha : AreWithin 1023 a) (hb 
   pub sum_fits : FitsSigned w64 (word (word m *ℤ word (at a)) +ℤ word (word n *ℤ word (at b)))
   sum_fits = fits w64 vars bounds bounded (plus firstE secondE) refl
 
+  pub left_fits : FitsSigned w64 (word (at c) +ℤ word (at d))
+  left_fits = fits w64 vars bounds bounded (plus (var 4) (var 5)) refl
+
   left_word : word (word (at c) +ℤ word (at d)) ≡ at c +ℤ at d
   left_word = exact w64 vars bounds bounded (plus (var 4) (var 5)) refl
 
@@ -123,6 +127,9 @@ two_to_word m n hm hn e = ap (of_z w64) (factors_raw m n hm hn ∙ e)
 
 place_read : (xs : List Point) (k : ℕ) (p : Point) → IsNumberOf xs k → (get_or xs (k - 1) p).place ≡ place_of_point xs k
 place_read xs k p n = ap (λ x. x.place) (get_or_default xs (k - 1) p no_point (let n0 = n.0 in let n1 = n.1 in omega (arith, n0, n1)))
+
+pub small_read : (xs : List Point) (k : ℕ) (p : Point) → IsSmallPoint xs k → IsSmall (get_or xs (k - 1) p).place
+small_read xs k p s = let P : Vector → Type 0 = IsSmall in subst P (sym (place_read xs k p s.0)) s.1
 
 -- the places that are read at the four numbers
 module _ (xs : List Point) (r : Fold) (m n : ℤ) (p q s t : Point) (na : IsNumberOf xs r.a) (nb : IsNumberOf xs r.b) (nc : IsNumberOf xs r.c) (nd : IsNumberOf xs r.d) (em : m ≡ r.alpha) (en : n ≡ r.beta) where

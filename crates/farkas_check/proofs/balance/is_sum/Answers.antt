@@ -1,7 +1,14 @@
 use Rattle.std.proofs.Common.{arith, below_more, to_z, of_z, w64}
 use Rattle.ntfe_model.proofs.SmallVectors.{small_coordinates}
-use Rattle.farkas_check.proofs.BalanceLemmas.{IsSumAt, sum_at, sum_of_all, first_fits, second_fits, sum_fits, from_words, to_words, with_words, without_words}
+use Rattle.farkas_check.proofs.BalanceLemmas.{IsSumAt, sum_at, sum_of_all, left_fits, first_fits, second_fits, sum_fits, from_words, to_words, with_words, without_words}
 use Rattle.farkas_check.proofs.balance.is_sum.Goals as goal
+
+pub overflow_add-c : goal.overflow_add-c
+overflow_add-c c =
+    left_fits c.coordinates-a.result.now c.coordinates-b.result.now c.coordinates-c.result.now c.coordinates-d.result.now c.args.alpha c.args.beta c.loop-i.i
+    (small_coordinates c.args.a.now c.coordinates-a.result.now c.requires.a c.coordinates-a.ensures.list) (small_coordinates c.args.b.now c.coordinates-b.result.now c.requires.b c.coordinates-b.ensures.list)
+    (small_coordinates c.args.c.now c.coordinates-c.result.now c.requires.c c.coordinates-c.ensures.list) (small_coordinates c.args.d.now c.coordinates-d.result.now c.requires.d c.coordinates-d.ensures.list)
+    c.requires.alpha c.requires.beta
 
 pub overflow_mul-alpha : goal.overflow_mul-alpha
 overflow_mul-alpha c =
