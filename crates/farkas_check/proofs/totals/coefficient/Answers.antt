@@ -1,4 +1,5 @@
 use Rattle.std.proofs.Common.{◌==◌, cond, false, true, Bool, ◌≡◌, ℕ, ℤ, ◌∙◌, sym, ap, List, [], ◌∷◌, refl, subst, ◌+ℤ◌, ◌-ℤ◌, w64, to_z, of_z, unsigned_abs, ◌≤◌, pos, arith}
+use Rattle.std.proofs.lemmas.Int.{ints}
 use Rattle.ntfe_nums.proofs.Ring.{Expression, value}
 use Rattle.ntfe_nums.proofs.Ring.Expression.{var, plus, minus}
 use Rattle.ntfe_nums.proofs.Machine.{AreBounded, exact, fits, value-size}
@@ -6,9 +7,9 @@ use Rattle.ntfe_model.specs.Certificates.{where_equal, fold_coefficient}
 use Rattle.ntfe_model.specs.declared.nogood.Fold.{Fold}
 use Rattle.farkas_check.specs.Folds.{IsSmallFold}
 use Rattle.farkas_check.proofs.BalanceLemmas.{factor_word}
-use Rattle.std.proofs.lemmas.Int.{ints}
 use Rattle.farkas_check.proofs.totals.coefficient.Goals as goal
 
+-- a factor or 0 is no larger than the factor
 where_size : (j k : ℕ) (z : ℤ) (m : ℕ) → unsigned_abs z ≤ m → unsigned_abs (where_equal j k z) ≤ m
 where_size j k z m l = by (j == k)
   where
@@ -28,6 +29,7 @@ firstE = minus (plus (var 0) (var 1)) (var 2)
 abbrev allE : Expression
 allE = minus firstE (var 3)
 
+-- the four parts of the coefficient, as they come from words of 64 bits
 module _ (r : Fold) (k : ℕ) (c d a b : ℤ) (s : IsSmallFold r) (ec : c ≡ where_equal r.c k (pos 1)) (ed : d ≡ where_equal r.d k (pos 1))
     (fa : a ≡ where_equal r.a k (to_z w64 (of_z w64 r.alpha))) (fb : b ≡ where_equal r.b k (to_z w64 (of_z w64 r.beta))) where
   ea : a ≡ where_equal r.a k r.alpha
