@@ -1,2 +1,5 @@
 pub mod Sums
 pub mod Refuting
+pub mod BalanceLemmas
+pub mod PartFolds
+pub mod TermLemmas

@@ -1,14 +1,11 @@
 -- A certificate refutes every choice that begins with the head that it blocks: the positive combination of positive folds is not zero.
-use Rattle.std.proofs.Common.{◌≡◌, ℕ, zero, suc, ◌+◌, ◌<◌, ◌≤◌, ◌⊎◌, inl, inr, ◌&&◌, refl, sym, ap, ◌∙◌, subst, arith, ℤ, pos, negsuc, ◌+ℤ◌, ◌*ℤ◌, ◌<ℤ◌, ◌≤ℤ◌, List, [], ◌∷◌, length, map, get_or}
-use Rattle.std.specs.Prelude.{All, Contains}
-use Rattle.std.specs.List.{range_with_len}
+use Rattle.std.proofs.Common.{◌≡◌, ℕ, zero, suc, ◌<◌, ◌≤◌, ◌⊎◌, inl, inr, sym, ap, ◌∙◌, subst, arith, ℤ, pos, negsuc, ◌+ℤ◌, ◌*ℤ◌, ◌<ℤ◌, ◌≤ℤ◌, List, [], ◌∷◌, length, get_or}
+use Rattle.std.specs.Prelude.{All}
 use Rattle.std.proofs.lemmas.Int.{ints}
 use Rattle.std.proofs.lemmas.List.{get_or-take}
-use Rattle.std.proofs.lemmas.List.Elements.{All-contains, All-filter, All-weaker, All-same, All-head, All-tail}
-use Rattle.ntfe_model.specs.Shapes.{Shape, IsShape, face_at, no_face}
-use Rattle.ntfe_model.specs.Points.{points_on_both, is_tight, place_of_point, IsFaceOf}
-use Rattle.ntfe_model.specs.Pairs.{entry}
-use Rattle.ntfe_model.specs.Charts.{Patch, patch_at, spot_numbers, IsOf}
+use Rattle.std.proofs.lemmas.List.Elements.{All-weaker, All-head, All-tail}
+use Rattle.ntfe_model.specs.Shapes.{Shape, IsShape}
+use Rattle.ntfe_model.specs.Charts.{Patch, patch_at, IsOf}
 use Rattle.ntfe_model.specs.Words.{IsItem}
 use Rattle.ntfe_model.specs.Choices.{IsExtendable, IsFoldOf, AreOpposite}
 use Rattle.ntfe_model.specs.Certificates.{fold_coefficient, total_coefficient, part_at, no_part, IsTermOf, IsCertificate, IsBlockedBy}
@@ -18,28 +15,12 @@ use Rattle.ntfe_model.specs.declared.nogood.Fold.{Fold}
 use Rattle.ntfe_model.specs.declared.nogood.Term.{Term}
 use Rattle.ntfe_model.specs.declared.nogood.Part.{Part}
 use Rattle.ntfe_model.specs.declared.nogood.Nogood.{Nogood}
-use Rattle.ntfe_model.proofs.Listings.{listing_range}
+use Rattle.ntfe_model.proofs.GeometryPoints.{point_within}
 use Rattle.ntfe_model.proofs.Folds.{unit_corner}
 use Rattle.ntfe_model.proofs.FoldPlanes.{above_gives_folds}
 use Rattle.farkas_check.proofs.Sums.{value, value_zero, HasPoints, fold_is_value, sum_of, total_value}
 
--- ---- the points of a two-face are numbered from 1
-
-numbers_of : (ks : List ℕ) (f : ℕ → Rattle.ntfe_nums.specs.Vectors.Vector) → spot_numbers (map (λ k. record { number = k; place = f k }) ks) ≡ ks
-numbers_of [] f = refl
-numbers_of (k ∷ ks) f = λ i. k ∷ numbers_of ks f i
-
-point_from_one : (g : Shape) → IsShape g → (f : ℕ) → f < length g.faces → (a : ℕ) → IsOf (patch_at g f) a → 1 ≤ a
-point_from_one g s f within a o =
-    let xs = g.points in
-    let face = face_at g f in
-    let is : IsFaceOf g.pair xs face = s.faces.sound f no_face within in
-    let P = λ (m : ℕ). 1 ≤ m in
-    let all : All P face.points = All-same P face.points (points_on_both g.pair xs face.first face.second) is.points
-    (All-filter (λ m. is_tight (entry g.pair.dual face.first) (place_of_point xs m) && is_tight (entry g.pair.dual face.second) (place_of_point xs m)) P (range_with_len 1 (length xs))
-    (All-weaker (λ m. (1 ≤ m) × (m < 1 + length xs)) P (λ m r. r.0) (range_with_len 1 (length xs)) (listing_range 1 (length xs)).sound)) in
-    let here : Contains face.points a = subst (λ (ks : List ℕ). Contains ks a) (numbers_of face.points (place_of_point xs)) o in
-    All-contains P face.points a all here
+-- ---- the points of a fold are numbered from 1
 
 fold_points : (g : Shape) → IsShape g → (f : ℕ) → f < length g.faces → (x : Triangulation) (n : ℕ) → IsItem (patch_at g f) n x → (r : Fold) → IsFoldOf (patch_at g f) x r → HasPoints r
 fold_points g s f within x n item r k = by k.opposite
@@ -51,7 +32,7 @@ fold_points g s f within x n item r k = by k.opposite
     of c d o =
         let u = unit_corner h o.0 r.a r.b c (item.is.fine.unit o.0 o.2) o.4 in
         let v = unit_corner h o.1 r.b r.a d (item.is.fine.unit o.1 o.3) o.5 in
-        let one = point_from_one g s f within in
+        let one = λ (a : ℕ) (o : IsOf (patch_at g f) a). (point_within g s f within a o).0 in
         (one r.a u.points.0, one r.b u.points.1, one c u.points.2, one d v.points.2)
 
     by : AreOpposite x.triangles r.a r.b r.c r.d ⊎ AreOpposite x.triangles r.a r.b r.d r.c → HasPoints r
