@@ -1,14 +1,14 @@
 -- Triples that can stand together.
---     part_more, part_less      one triple more, and one less
---     part_of_fine      the triples of a triangulation are a part
---     part_once, part_apart      what a part has of a fine set
-use Rattle.std.proofs.Common.{◌≡◌, ℕ, inl, inr, ⊎_elim, refl, sym, subst, arith, List, [], ◌∷◌, ◌++◌}
+--     crossing_conflict, no_conflict_turns      sides in conflict, by the turns of their ends
+--     part_more, part_left, part_next      one triple more, the triples before, and the next one
+use Rattle.std.proofs.Common.{◌≡◌, ℕ, zero, suc, ◌+◌, ◌<◌, ◌≤◌, inl, inr, ⊎_elim, refl, sym, ap, ◌∙◌, subst, arith, List, [], ◌∷◌, ◌++◌, length, drop, get_or}
+use Rattle.std.proofs.Math.Seq.{drop-length}
 use Rattle.std.specs.Prelude.{All, AllPairs, Contains}
 use Rattle.ntfe_model.specs.Charts.{Patch, turn, IsUnit}
 use Rattle.ntfe_model.specs.Triangulations.{HasSide}
 use Rattle.ntfe_model.specs.declared.triangle.Triangle.{Triangle}
 use Rattle.ntfe_model.proofs.Listings.{Contains-here, Contains-cases, Contains-none, AllPairs-head, AllPairs-tail, AllPairs-append, All-from_contains}
-use Rattle.std.proofs.lemmas.List.Elements.{All-contains, Contains-append_cases, Contains-append_left, Contains-append_right}
+use Rattle.std.proofs.lemmas.List.Elements.{All-contains, All-cons, Contains-append_cases, Contains-append_left, Contains-append_right}
 use Rattle.std.proofs.lemmas.List.Kept.{AllPairs-cons}
 use Rattle.ntfe_model.specs.Charts.{AreApart}
 use Rattle.ntfe_model.proofs.UnitTriples.{unit_turn}
@@ -104,3 +104,37 @@ part_next h ts t p = (
   All-contains (λ v. IsUnit h v.a v.b v.c) (ts ++ t ∷ []) t p.unit (Contains-append_right ts (t ∷ []) t (Contains-here t t [] refl)),
   All-from_contains (λ u. AreCompatible h u t) ts (λ u k. AllPairs-across (AreCompatible h) ts (t ∷ []) p.compatible u t k (Contains-here t t [] refl)),
 )
+
+-- ---- from the last triple on
+
+-- the triples from place n on are compatible with t
+pub record AreCompatibleFrom (h : Patch) (n : ℕ) (us : List Triangle) (t : Triangle) : Type 0 where
+  pub within : n ≤ length us
+  pub all : All (λ u. AreCompatible h u t) (drop n us)
+
+pub from_end : (h : Patch) (n : ℕ) (us : List Triangle) (t : Triangle) → n ≡ length us → AreCompatibleFrom h n us t
+from_end h n us t e = record {
+  within = omega arith;
+  all = let P : List Triangle → Type 0 = λ vs. All (λ u. AreCompatible h u t) vs in
+      subst P (sym (ap (λ k. drop k us) e ∙ drop-length us)) (All-from_contains (λ u. AreCompatible h u t) [] (λ u k. Contains-none u k));
+}
+
+one_before : (us : List Triangle) (n : ℕ) (d : Triangle) → n < length us → drop n us ≡ get_or us n d ∷ drop (suc n) us
+one_before [] n d l = absurd (omega (arith, l))
+one_before (u ∷ us) zero d l = refl
+one_before (u ∷ us) (suc n) d l = one_before us n d (omega arith)
+
+pub from_before : (h : Patch) (n m : ℕ) (us : List Triangle) (t d : Triangle) → n ≡ m + 1 → AreCompatible h (get_or us m d) t → AreCompatibleFrom h n us t → AreCompatibleFrom h m us t
+from_before h n m us t d e c a = record {
+  within = (let w = a.within in omega arith);
+  all = let P : List Triangle → Type 0 = λ vs. All (λ v. AreCompatible h v t) vs in
+      let rest : All (λ v. AreCompatible h v t) (drop (suc m) us) = (let Q : ℕ → Type 0 = λ k. All (λ v. AreCompatible h v t) (drop k us) in subst Q (e ∙ next m) a.all) in
+      subst P (sym (one_before us m d (let w = a.within in omega arith))) (All-cons (λ v. AreCompatible h v t) (get_or us m d) (drop (suc m) us) c rest);
+}
+  where
+    next : (k : ℕ) → k + 1 ≡ suc k
+    next k = omega arith
+
+pub from_all : (h : Patch) (n : ℕ) (us : List Triangle) (t : Triangle) → n ≤ 0 → AreCompatibleFrom h n us t → All (λ u. AreCompatible h u t) us
+from_all h zero us t l a = a.all
+from_all h (suc n) us t l a = absurd (omega (arith, l))

@@ -135,8 +135,11 @@ pub fn fits(chart: &Chart, triangles: &[Triangle], t: &Triangle) -> bool
     if !chart.unit(t.a, t.b, t.c) {
         return false;
     }
-    for u in triangles {
-        if !are_compatible(chart, u, t) {
+    // those that came last are nearest, and most often in the way
+    let mut left = triangles.len();
+    while left > 0 {
+        left -= 1;
+        if !are_compatible(chart, &triangles[left], t) {
             return false;
         }
     }

@@ -28,7 +28,7 @@ impl Model for Stream {
 }
 
 impl Stream {
-    ghost use Rattle.fine_stream.specs.Cursors.{IsNextItem};
+    ghost use Rattle.fine_stream.specs.Cursors.{IsCursor, IsNextItem};
     ghost use Rattle.fine_stream.specs.declared.position.Position.TheVariants.{Start, After};
 
     /// The stream that stands before the first item.
@@ -69,7 +69,8 @@ impl Stream {
 
     /// The points of the two-face, and what is asked of them. Takes no memory.
     pub fn chart(&self) -> &Chart
-        ensures { result.now ≡ self.now.patch }
+        ensures patch { result.now ≡ self.now.patch }
+        ensures cursor { IsCursor self.now }
     {
         &self.chart
     }

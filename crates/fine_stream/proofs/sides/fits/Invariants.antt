@@ -1,7 +1,8 @@
-use Rattle.std.proofs.Common.{take}
-use Rattle.std.specs.Prelude.{All}
-use Rattle.fine_stream.specs.Paths.{AreCompatible}
+use Rattle.fine_stream.proofs.Parts.{AreCompatibleFrom}
 use Rattle.fine_stream.proofs.sides.fits.Given as goal
 
-abbrev pub invariant-loop-u : goal.invariant-loop-u
-invariant-loop-u l = All (λ u. AreCompatible l.chart u l.t) (take l.u-index l.triangles)
+abbrev pub invariant-loop-left : goal.invariant-loop-left
+invariant-loop-left l = AreCompatibleFrom l.chart l.left l.triangles l.t
+
+abbrev pub decreases-loop-left : goal.decreases-loop-left
+decreases-loop-left l = l.left
