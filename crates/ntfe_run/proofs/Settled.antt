@@ -35,7 +35,7 @@ pub live_raised : (g : Shape) (width : ℕ) (key : List ℕ) → 1 ≤ length ke
 live_raised g width key some live = record {
   after = tt;
   open_stems = λ k p l n. (let m : k < length key = (let e = raised_length key some in omega arith) in
-  subst (λ (h : List ℕ). AllItemsExist g h × ¬ (IsRefutedAt g width h)) (sym (front_of_raised key k some m)) (live.open_stems k p m tt));
+      subst (λ (h : List ℕ). AllItemsExist g h × ¬ (IsRefutedAt g width h)) (sym (front_of_raised key k some m)) (live.open_stems k p m tt));
 }
 
 pub live_first : (g : Shape) (width : ℕ) (key : List ℕ) → IsLive g None width key → AllItemsExist g key → ¬ (IsRefutedAt g width key) → IsLive g None width (first_under key)
@@ -107,7 +107,7 @@ under_way_settled g width s t key v sound u c probed z = record {
   given_out = z.closed ∙ u.given_out;
   keys = All-from_contains (IsLive g None width) t.open_keys (λ j h. ⊎_elim (λ old. All-contains (IsLive g None width) s.open_keys j u.keys old.0) (λ new. opened_live g width key v some live probed j new) ((z.open_keys j).0 h));
   records = All-from_contains (λ r. IsLiveRecord g width r.key r.found) t.recorded
-    (λ r h. ⊎_elim (λ old. All-contains (λ q. IsLiveRecord g width q.key q.found) s.recorded r u.records old) (λ new. recorded_live g width key v live probed r new) ((z.recorded r).0 h));
+      (λ r h. ⊎_elim (λ old. All-contains (λ q. IsLiveRecord g width q.key q.found) s.recorded r u.records old) (λ new. recorded_live g width key v live probed r new) ((z.recorded r).0 h));
 }
   where
     live : IsLive g None width key

@@ -216,7 +216,7 @@ pub all_written : (g : Shape) (form : Form) → form.stars ≡ false → 0 < len
 all_written g form plain some s t fresh sound a b w o count e = record {
   blocks = w.news;
   are = subst (λ (x : Shape). AreBlocks x form None w.news) of
-    (all_blocks t sound form plain w.news (subst (λ (x : Shape). AreBlocksTo x form t.last w.news) (sym w.on.geometry) (w.on.listed [] first)) (subst (λ (x : Shape). 0 < length x.faces) (sym of) some) o.no_key o.no_record o.running);
+      (all_blocks t sound form plain w.news (subst (λ (x : Shape). AreBlocksTo x form t.last w.news) (sym w.on.geometry) (w.on.listed [] first)) (subst (λ (x : Shape). 0 < length x.faces) (sym of) some) o.no_key o.no_record o.running);
   took = w.took;
   counted = e ∙ w.on.count 0 (ap (λ x. x.totals.written) fresh) ∙ ap (λ n. min (2 ^ 63) n) (let q : 0 + length w.news ≡ length w.news = omega arith in q);
 }

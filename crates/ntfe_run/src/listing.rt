@@ -28,16 +28,13 @@ pub enum Halt {
         number: i128,
     },
     /// The two-face, from 0, has an item whose number is the item limit.
-    Limit { face: u32 },
+    Limit {
+        face: u32,
+    },
 }
 
 /// Writes the block of a class; an outcome of another kind ends the listing.
-fn tell<K: Sink>(
-    alloc: Global,
-    form: &TextForm,
-    outcome: Outcome,
-    out: &mut K,
-) -> Result<(), Halt>
+fn tell<K: Sink>(alloc: Global, form: &TextForm, outcome: Outcome, out: &mut K) -> Result<(), Halt>
     requires plain { form.now.stars ≡ false }
     requires fits { FitsForm form.now outcome }
     ensures told { HasTold outcome (K.taken out.old) (K.taken out.new) (K.faults out.old) (K.faults out.new) result }

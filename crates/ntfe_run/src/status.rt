@@ -38,7 +38,9 @@ pub enum Status {
         number: i128,
     },
     /// The two-face, from 0, has more items than the item limit.
-    Limit { face: u32 },
+    Limit {
+        face: u32,
+    },
     /// There was no memory.
     Memory,
     /// The source failed.

@@ -62,11 +62,13 @@ fn status_of_listing(listed: Result<(), Halt>) -> Status
         Ok(()) => Status::Done,
         Err(Halt::Write) => Status::WriteFault,
         Err(Halt::Memory) => Status::Memory,
-        Err(Halt::Overflow {
-            choice,
-            step,
-            number,
-        }) => Status::Overflow {
+        Err(
+            Halt::Overflow {
+                choice,
+                step,
+                number,
+            },
+        ) => Status::Overflow {
             choice,
             step,
             number,
