@@ -27,6 +27,8 @@ impl<R: Read> Source for ReadEdge<R> {
 
     ghost faults = { λ s. s.faults };
 
+    ghost turns = { λ _. 0 };
+
     fn read(&mut self, into: &mut [u8]) -> Result<usize, Failed> {
         match self.inner.read(into) {
             Ok(count) => Ok(count),

@@ -1,5 +1,5 @@
 //! A source in memory.
-ghost use Rattle.std.specs.Prelude.{◌≡◌, ◌<◌, ◌≤◌, Some, length};
+ghost use Rattle.std.specs.Prelude.{◌≡◌, ◌<◌, ◌≤◌, ◌+◌, Some, length};
 ghost use Rattle.std.specs.Io.{ReadsAtMost};
 ghost use Rattle.std.specs.Io.KnownBytes.{ReadConsumes};
 ghost use Rattle.io_edge.specs.Causes.{HasCause};
@@ -53,12 +53,15 @@ impl Source for MemorySource {
 
     ghost faults = { λ s. s.faults };
 
+    ghost turns = { λ s. s.calls };
+
     /// A call fails where it is numbered in `failing`, and then it is counted.
     fn read(&mut self, into: &mut [u8]) -> Result<usize, Failed>
         requires { 0 < length into.old }
         ensures count { ReadsAtMost result into.new }
         ensures bytes { ReadConsumes (Some self.old.left) (Some self.new.left) result into.new }
         ensures cause { HasCause self.old.faults self.new.faults result }
+        ensures turns { self.new.calls ≤ self.old.calls + 1 }
         ensures exact { Gives self.old self.new result (length into.old) }
     {
         let call = self.calls;

@@ -17,12 +17,14 @@ pub enum ReadStop {
     Memory,
 }
 
-/// Reads to the end, or until one byte more than the limit was taken. Each turn takes a byte at least.
+/// Reads to the end, or until one byte more than the limit was taken. Each turn takes a byte at least, but for the
+/// one that finds the end.
 pub fn read_all<S: Source>(alloc: Global, source: &mut S, limit: usize) -> Result<Vec<u8>, ReadStop>
     requires { limit < 2 ^ 32 }
     ensures ok { IfOk result (λ v. ReadsAll (S.left source.old) (S.left source.new) v.items limit) }
     ensures size { result ≡ Err ReadStop.Size → ReadsPast (S.left source.old) (S.left source.new) limit }
     ensures later { S.faults source.old ≤ S.faults source.new }
+    ensures turns { S.turns source.new ≤ S.turns source.old + limit + 2 }
     ensures cause { result ≡ Err ReadStop.Read → Rose (S.faults source.old) (S.faults source.new) }
 {
     let mut bytes = Vec::new(alloc);
