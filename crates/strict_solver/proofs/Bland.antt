@@ -35,7 +35,7 @@ basic_or_not (Some r) = inl (r, refl)
 not_both : (o : Option Line) (r : Line) → o ≡ Some r → o ≡ None → ⊥
 not_both o r e f = cc
 
-row-of : (columns x y : ℕ) (s : Lines) → IsMove columns s x y → (columns ≤ x) × (columns ≤ y)
+pub row-of : (columns x y : ℕ) (s : Lines) → IsMove columns s x y → (columns ≤ x) × (columns ≤ y)
 row-of columns x y s m =
     let f = first_slack-found columns _ s x m.leaving in
     (f.slack, (entering-found columns s x f.row y f.is m.entering).slack)

@@ -7,6 +7,7 @@ use Rattle.strict_solver.specs.declared.place.Place.TheVariants.{Row, Column}
 use Rattle.strict_solver.specs.declared.row.PivotRow.{PivotRow}
 use Rattle.strict_solver.specs.declared.grid.Grid.{Grid}
 use Rattle.strict_solver.specs.Rows.{number, AreNarrow, IsLowRow, IsSolvedRow, IsCombination}
+use Rattle.strict_solver.specs.ShortRows.{IsLargest}
 use Rattle.strict_solver.specs.Grids.{row_at, lines_by, lines_of, IsPivotRow, AreRowsFor, IsEliminated, IsFirstWideRow, IsPlacing, IsGrid, IsWidePivot}
 use Rattle.strict_solver.proofs.Rows.{wider_narrow, zero_narrow}
 use Rattle.strict_solver.proofs.Elimination.{same_place}
@@ -140,13 +141,14 @@ module _ (width x y r p : ℕ) (old : Grid) (mid : List ℤ) (h : IsGrid width o
         let R : ℤ → Type 0 = λ k. IsCombination from p (set (row_at (old.columns + 2) mid r) 0 (pos 0)) k new in
         subst R denominator_is (subst Q numbers_are (subst P column_is c))
 
-    pub pivot_row : (s : ℕ) → s ≡ old.columns + 2 → width ≤ 62 → IsPivotRow s pivot
-    pivot_row s es w =
+    pub pivot_row : (s : ℕ) → s ≡ old.columns + 2 → width ≤ 62 → IsLargest pivot.numbers.items pivot.largest → IsPivotRow s pivot
+    pivot_row s es w largest =
         let T : List ℤ → Type 0 = λ k. AreNarrow 62 k in
         let c = h.placing.columns_within y p ey in
         let n = (solved.count ∙ rows r r_within) in
         record {
           narrow = subst T (sym numbers_are) (headless_narrow 62 (row_at (old.columns + 2) mid r) (wider_narrow width 62 (row_at (old.columns + 2) mid r) w mid_low.narrow));
+          largest = largest;
           count = ap (λ (k : List ℤ). length k) numbers_are ∙ length-set (row_at (old.columns + 2) mid r) 0 (pos 0) ∙ n ∙ sym es;
           first = ap (λ k. number k 0) numbers_are ∙ get_or-set_same (row_at (old.columns + 2) mid r) 0 (pos 0) (pos 0) (omega arith);
           positive = subst (λ z. pos 0 <ℤ z) (sym denominator_is) mid_low.positive;

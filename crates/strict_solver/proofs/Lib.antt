@@ -12,8 +12,11 @@ pub mod Scales
 pub mod Cancel
 pub mod Bases
 pub mod Bound
+pub mod Lengths
 pub mod Rows
 pub mod Wide
+pub mod Divisors
+pub mod ShortRows
 pub mod Combine
 pub mod Parts
 pub mod Elimination

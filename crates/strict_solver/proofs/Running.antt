@@ -1,5 +1,5 @@
 -- One more pivot of a run.
-use Rattle.std.proofs.Common.{◌≡◌, ℕ, zero, suc, ◌+◌, ◌-◌, ◌*◌, ◌^◌, ◌<◌, ◌≤◌, ◌⊎◌, inl, inr, min, not, refl, sym, ap, ◌∙◌, subst, arith, ℤ, pos, List, [], ◌∷◌, ◌++◌, length, get_or, Option, Some, None}
+use Rattle.std.proofs.Common.{◌≡◌, ℕ, zero, suc, ◌+◌, ◌-◌, ◌^◌, ◌<◌, ◌≤◌, ◌⊎◌, inl, inr, min, not, refl, sym, ap, ◌∙◌, subst, arith, ℤ, pos, List, [], ◌∷◌, ◌++◌, length, get_or, Option, Some, None}
 use Rattle.std.specs.Prelude.{slice_get, flat_map}
 use Rattle.std.specs.Option.{option_map_or}
 use Rattle.std.specs.Ordering.{int_eq}
@@ -17,7 +17,7 @@ use Rattle.strict_solver.proofs.Moves.{IsMove, first_slack-found, int_eq-some}
 use Rattle.strict_solver.proofs.Placing.{lines-length, line_there, lines-table}
 use Rattle.strict_solver.proofs.Pivoting.{some_place}
 use Rattle.strict_solver.proofs.Bland.{IsMovingStep, step-loaded}
-use Rattle.strict_solver.proofs.Bases.{power}
+use Rattle.strict_solver.proofs.Bases.{slack_sets}
 use Rattle.strict_solver.proofs.Agree.{pivot_same}
 use Rattle.strict_solver.proofs.Steps.{step_lines, step-is, move-pivotable, moves_left, moves_left-falls}
 use Rattle.strict_solver.proofs.Tables.{get_line, line_narrow, table_narrow}
@@ -270,18 +270,14 @@ module _ (columns width : ℕ) (g h : Grid) (x y : ℕ) (i : IsGrid width g) (sa
   step_same : lines_of h ≡ step_lines x y (lines_of g)
   step_same = pivot_same x y (lines_of g) (lines_of h) (step_lines x y (lines_of g)) p (step-is x y (lines_of g) (grid_table width g i) (move-pivotable columns x y (lines_of g) is_move))
 
-  power_same : (s t : List (Option Line)) → length s ≡ length t → power s ≡ power t
-  power_same [] [] q = refl
-  power_same [] (o ∷ t) q = absurd (omega arith)
-  power_same (o ∷ s) [] q = absurd (omega arith)
-  power_same (o ∷ s) (r ∷ t) q = ap (λ n. 2 * n) (power_same s t (omega arith))
-
-  pub one_less : moves_left h.columns (power (lines_of h)) (lines_of h) < moves_left g.columns (power (lines_of g)) (lines_of g)
+  pub one_less : moves_left h.columns (slack_sets h.columns (lines_of h)) (lines_of h) < moves_left g.columns (slack_sets g.columns (lines_of g)) (lines_of g)
   one_less =
-      let P : List (Option Line) → Type 0 = λ k. moves_left columns (power k) k < moves_left columns (power (lines_of g)) (lines_of g) in
-      let Q : ℕ → Type 0 = λ k. moves_left k (power (lines_of h)) (lines_of h) < moves_left g.columns (power (lines_of g)) (lines_of g) in
-      let R : ℕ → Type 0 = λ k. moves_left columns (power (lines_of h)) (lines_of h) < moves_left k (power (lines_of g)) (lines_of g) in
+      let P : List (Option Line) → Type 0 = λ k. moves_left columns (slack_sets columns k) k < moves_left columns (slack_sets columns (lines_of g)) (lines_of g) in
+      let Q : ℕ → Type 0 = λ k. moves_left k (slack_sets k (lines_of h)) (lines_of h) < moves_left g.columns (slack_sets g.columns (lines_of g)) (lines_of g) in
+      let R : ℕ → Type 0 = λ k. moves_left columns (slack_sets columns (lines_of h)) (lines_of h) < moves_left k (slack_sets k (lines_of g)) (lines_of g) in
       let move : moving columns (lines_of g) ≡ pivot x y [] =
       ap (λ o. option_map_or (λ x. option_map_or (λ y. pivot x y []) (first_entering columns (lines_of g) x) (infeasible x)) o feasible) (sym e) ∙ ap (λ o. option_map_or (λ y. pivot x y []) o (infeasible x)) (sym f) in
-      let less = moves_left-falls columns x y (lines_of g) (grid_table width g i) columns_within loaded is_move move (power_same (step_lines x y (lines_of g)) (lines_of g) (ap (λ (k : List (Option Line)). length k) (sym step_same) ∙ p.length_same)) in
+      let less =
+      moves_left-falls columns x y (lines_of g) (grid_table width g i) columns_within loaded is_move move
+      (ap (λ n. 2 ^ (n - columns)) (ap (λ (k : List (Option Line)). length k) (sym step_same) ∙ p.length_same)) in
       subst Q (sym (same.columns ∙ en)) (subst R (sym en) (subst P (sym step_same) less))

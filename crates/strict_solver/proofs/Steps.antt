@@ -14,7 +14,7 @@ use Rattle.strict_solver.proofs.Pivots.{IsTable, get_here, get_there}
 use Rattle.strict_solver.proofs.Values.{product_positive}
 use Rattle.strict_solver.proofs.Moves.{IsMove, moving-pivot, first_slack-found, entering-found}
 use Rattle.strict_solver.proofs.Bland.{IsMovingStep, IsMoving, IsLoaded, step-table}
-use Rattle.strict_solver.proofs.Bases.{power}
+use Rattle.strict_solver.proofs.Bases.{slack_sets}
 use Rattle.strict_solver.proofs.Bound.{few_moves}
 
 abbrev next_line : ℕ → ℕ → Line → ℕ → Option Line → Option Line
@@ -155,7 +155,7 @@ has_run columns bound (suc f) s w l = by (moving columns s) refl (λ x y. has_ru
         let r = rest x y (step-table columns bound s (step_lines x y s) step w) (let a = p.length_same in omega arith) in
         record { ts = step_lines x y s ∷ r.ts; t = r.t; count = ap suc r.count; is = (step, r.is) }
 
-pub moves_left-small : (columns f : ℕ) (s : List (Option Line)) → IsTable s → columns ≤ length s → IsLoaded columns s → moves_left columns f s < power s
+pub moves_left-small : (columns f : ℕ) (s : List (Option Line)) → IsTable s → columns ≤ length s → IsLoaded columns s → moves_left columns f s < slack_sets columns s
 moves_left-small columns f s w c l =
     let r = has_run columns (length s) f s w (omega arith) in
     let h = few_moves columns (length s) s r.ts r.t w c l r.is in
@@ -175,16 +175,16 @@ stable columns (suc f) s h = by (moving columns s) refl h (λ x y. stable column
 
 -- the number of moves to come falls at a move
 pub moves_left-falls : (columns x y : ℕ) (s : List (Option Line)) → IsTable s → columns ≤ length s → IsLoaded columns s → IsMove columns s x y → moving columns s ≡ pivot x y []
-    → power (step_lines x y s) ≡ power s → moves_left columns (power (step_lines x y s)) (step_lines x y s) < moves_left columns (power s) s
+    → slack_sets columns (step_lines x y s) ≡ slack_sets columns s → moves_left columns (slack_sets columns (step_lines x y s)) (step_lines x y s) < moves_left columns (slack_sets columns s) s
 moves_left-falls columns x y s w c l m e q =
-    let h = moves_left-small columns (power s) s w c l in
-    let some : power s ≡ suc (power s - 1) = omega arith in
-    by (power s - 1) some (subst (λ n. moves_left columns n s < n) some h) q
+    let h = moves_left-small columns (slack_sets columns s) s w c l in
+    let some : slack_sets columns s ≡ suc (slack_sets columns s - 1) = omega arith in
+    by (slack_sets columns s - 1) some (subst (λ n. moves_left columns n s < n) some h) q
   where
-    by : (f : ℕ) → power s ≡ suc f → moves_left columns (suc f) s < suc f → power (step_lines x y s) ≡ power s → moves_left columns (power (step_lines x y s)) (step_lines x y s) < moves_left columns (power s) s
+    by : (f : ℕ) → slack_sets columns s ≡ suc f → moves_left columns (suc f) s < suc f → slack_sets columns (step_lines x y s) ≡ slack_sets columns s → moves_left columns (slack_sets columns (step_lines x y s)) (step_lines x y s) < moves_left columns (slack_sets columns s) s
     by f g h q =
         let one : moves_left columns (suc f) s ≡ suc (moves_left columns f (step_lines x y s)) = ap (λ k. counted k (λ u v. moves_left columns f (step_lines u v s))) e in
         let two = stable columns f (step_lines x y s) (omega arith) in
-        let three : moves_left columns (power (step_lines x y s)) (step_lines x y s) ≡ moves_left columns (suc f) (step_lines x y s) = ap (λ n. moves_left columns n (step_lines x y s)) (q ∙ g) in
-        let four : moves_left columns (power s) s ≡ moves_left columns (suc f) s = ap (λ n. moves_left columns n s) g in
+        let three : moves_left columns (slack_sets columns (step_lines x y s)) (step_lines x y s) ≡ moves_left columns (suc f) (step_lines x y s) = ap (λ n. moves_left columns n (step_lines x y s)) (q ∙ g) in
+        let four : moves_left columns (slack_sets columns s) s ≡ moves_left columns (suc f) s = ap (λ n. moves_left columns n s) g in
         omega arith

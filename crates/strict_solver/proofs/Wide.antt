@@ -1,7 +1,8 @@
 -- The search for the first wide number.
-use Rattle.std.proofs.Common.{◌≡◌, ℕ, zero, suc, ◌+◌, ◌^◌, ◌<◌, Bool, true, false, cond, refl, ap, ◌∙◌, arith, ℤ, pos, List, [], ◌∷◌, length, get_or, map, drop, Some, None, unsigned_abs, nat_le}
+use Rattle.std.proofs.Common.{◌≡◌, ℕ, zero, suc, ◌+◌, ◌/◌, ◌^◌, ◌<◌, ◌≤◌, ◌⊎◌, inl, inr, not, eqb, leb, Bool, true, false, cond, refl, ap, ◌∙◌, arith, ℤ, pos, List, [], ◌∷◌, length, get_or, map, drop, Some, None, unsigned_abs, nat_le}
 use Rattle.std.proofs.lemmas.Bool.Decides.{nat_tests}
 use Rattle.std.proofs.lemmas.Nat.{pow_pos}
+use Rattle.std.proofs.Math.Nat.{div-lt_iff_lt-mul}
 use Rattle.std.proofs.lemmas.List.{at_drop_more}
 use Rattle.ntfe_model.specs.Solver.{first_wide, line_numbers}
 use Rattle.strict_solver.specs.declared.place.Place.{Place}
@@ -56,3 +57,21 @@ all_narrow width (z ∷ zs) h = narrow_first width z zs (not_wide (unsigned_abs 
   where
     not_wide : (n : ℕ) → n < 2 ^ width → nat_le (2 ^ width) n ≡ false
     not_wide n l = grind (arith, nat_tests)
+
+-- ---- the test of a number: shifted down by the width it is not 0
+zero_quotient : (n m q : ℕ) → 0 < m → (q < 1 → n < m) → (n < m → q < 1) → not (eqb q 0) ≡ leb m n
+zero_quotient n m q h f g = by (let c : (n < m) ⊎ (m ≤ n) = grind arith in c)
+  where
+    by : (n < m) ⊎ (m ≤ n) → not (eqb q 0) ≡ leb m n
+    by (inl l) = let i = g l in grind (arith, nat_tests)
+    by (inr l) = at (let c : (q < 1) ⊎ (0 < q) = grind arith in c)
+      where
+        at : (q < 1) ⊎ (0 < q) → not (eqb q 0) ≡ leb m n
+        at (inl i) = let j = f i in absurd (omega arith)
+        at (inr i) = grind (arith, nat_tests)
+
+pub wide_shifted : (n w : ℕ) → not (eqb (n / 2 ^ w) 0) ≡ leb (2 ^ w) n
+wide_shifted n w =
+    let p = pow_pos w in
+    let h = div-lt_iff_lt-mul {k = 2 ^ w} {x = n} {y = 1} p in
+    zero_quotient n (2 ^ w) (n / 2 ^ w) p (λ l. let i = h.0 l in omega arith) (λ l. h.1 (omega arith))

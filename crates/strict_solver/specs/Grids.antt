@@ -2,6 +2,7 @@
 use Rattle.std.specs.Prelude.{◌≡◌, ◌≢◌, ℕ, ◌+◌, ◌*◌, ◌^◌, ◌<◌, ◌≤◌, ℤ, pos, ◌<ℤ◌, unsigned_abs, List, map, length, slice_get, slice_range, flat_map, Option, Some, None, vec_capacity}
 use Rattle.ntfe_model.specs.Solver.{Line, line_numbers, line_or_nothing, coefficient_at, first_wide, IsPivot}
 use Rattle.strict_solver.specs.Rows.{number, AreNarrow, IsLowRow, IsCombination, line_in, PlacesWithin}
+use Rattle.strict_solver.specs.ShortRows.{IsLargest}
 use Rattle.strict_solver.specs.declared.place.Place.{Place}
 use Rattle.strict_solver.specs.declared.place.Place.TheVariants.{Row, Column}
 use Rattle.strict_solver.specs.declared.row.PivotRow.{PivotRow}
@@ -14,6 +15,7 @@ row_at stride cells r = slice_range cells (r * stride) (r * stride + stride)
 -- a pivot row that can be put into rows of this length
 pub record IsPivotRow (stride : ℕ) (pivot : PivotRow) : Type 0 where
   pub narrow : AreNarrow 62 pivot.numbers.items
+  pub largest : IsLargest pivot.numbers.items pivot.largest
   pub count : length pivot.numbers.items ≡ stride
   pub first : number pivot.numbers.items 0 ≡ pos 0
   pub positive : pos 0 <ℤ pivot.denominator

@@ -1,4 +1,5 @@
 pub mod Rows
+pub mod ShortRows
 pub mod Grids
 pub mod Runs
 pub mod Starts
@@ -6,3 +7,4 @@ pub mod Scales
 pub mod Answers
 pub mod Outcomes
 pub mod Solving
+pub mod Lengths

@@ -58,3 +58,11 @@ line_in places row = record { d = slice_index_or row 0 (pos 0); c = slice_index_
 -- each column's index is below the length of the rows
 pub record PlacesWithin (stride : ℕ) (places : List Place) : Type 0 where
   pub each : (v p : ℕ) → slice_get places v ≡ Some (Column p) → p < stride
+
+-- the row divided by a positive number, so that only 1 divides all its numbers
+pub record IsLowered (old new : List ℤ) : Type 0 where
+  pub count : length new ≡ length old
+  pub k : ℕ
+  pub factor : 0 < k
+  pub same : (j : ℕ) → number old j ≡ pos k *ℤ number new j
+  pub lowest : (m : ℕ) → ((j : ℕ) → m ∣ unsigned_abs (number new j)) → m ≡ 1

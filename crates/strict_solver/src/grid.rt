@@ -5,6 +5,7 @@ ghost use Rattle.strict_solver.specs.Rows.{number, IsSolvedRow, AreNarrow, IsWid
 
 use crate::place::Place;
 use crate::row::{PivotRow, eliminate, first_wide_number, solve_for};
+use crate::short::largest;
 
 /// The rows of the basic variables, with a column for each of the others.
 #[derive(Drop)]
@@ -87,6 +88,7 @@ impl Grid {
     ghost use Rattle.std.specs.List.{range_with_len};
     ghost use Rattle.std.specs.Ordering.{int_eq};
     ghost use Rattle.ntfe_model.specs.Solver.{IsPivot, coefficient_at, first_slack, first_negative as first_slack_below, first_entering as first_to_enter, IsWideTable};
+    ghost use Rattle.strict_solver.specs.ShortRows.{IsLargest};
     ghost use Rattle.strict_solver.specs.Runs.{Stands, IsLoadedAt, IsSettled, HasLoaded};
     ghost use Rattle.strict_solver.specs.Grids.{lines_of, IsGrid, HasSameSize, IsPivotable, IsWidePivot};
 
@@ -109,6 +111,7 @@ impl Grid {
         ensures column { self.new.pivot.column ≡ p }
         ensures denominator { self.new.pivot.denominator ≡ number (row_at (self.old.columns + 2) self.new.cells.items r) 0 }
         ensures numbers { self.new.pivot.numbers.items ≡ slice_set (row_at (self.old.columns + 2) self.new.cells.items r) 0 (pos 0) }
+        ensures largest { IsLargest self.new.pivot.numbers.items self.new.pivot.largest }
     {
         let stride = self.columns + 2;
         let row = &mut self.cells[r * stride..r * stride + stride];
@@ -118,6 +121,7 @@ impl Grid {
         self.pivot.denominator = row[0];
         self.pivot.numbers.copy_from_slice(row);
         self.pivot.numbers[0] = 0;
+        self.pivot.largest = largest(&self.pivot.numbers);
     }
 
     /// The pivot on the basic variable of a row and on the variable of a column. The answer is the first wide number of the table after it.

@@ -2,14 +2,17 @@
 #![tactic(auto)]
 
 mod grid;
+mod law;
 mod place;
 mod row;
 mod run;
 mod scale;
+mod short;
 mod start;
 mod tableau;
 #[cfg(test)]
 mod tests;
 
+pub use law::{moving_is_short, run_is_short};
 pub use run::Solved;
 pub use tableau::Tableau;

@@ -2,9 +2,11 @@
 ghost use Rattle.std.specs.Prelude.{◌≡◌, ◌≢◌, ℕ, ◌^◌, ◌<◌, ◌≤◌, pos, ◌+ℤ◌, ◌*ℤ◌, ◌<ℤ◌, neg_ℤ, map, length, unsigned_abs, nat_le, MatchBool};
 ghost use Rattle.std.specs.Int.{◌∣◌};
 ghost use Rattle.ntfe_model.specs.Solver.{first_wide, line_numbers};
+ghost use Rattle.strict_solver.specs.ShortRows.{IsLargest, AreShares, IsShort};
 ghost use Rattle.strict_solver.specs.Rows.{number, AreNarrow, IsWideRow, IsCommonDivisor, IsLowRow, IsSolvedRow, IsCombination, line_in, PlacesWithin};
 
 use crate::place::Place;
+use crate::short::{Shares, are_narrow, is_short, lower, mix, share_out, widen};
 use ntfe_nums::{gcd, narrow};
 
 /// The row that is put in place of a variable in the others.
@@ -18,6 +20,8 @@ pub struct PivotRow {
     pub denominator: i64,
     /// The row with 0 in place of its d.
     pub numbers: Vec<i64>,
+    /// The largest size of its numbers.
+    pub largest: u64,
 }
 
 /// Changes the sign of every number.
@@ -134,9 +138,8 @@ pub fn store(numbers: &[i128], width: u8, row: &mut [i64]) -> bool
     true
 }
 
-/// Puts the pivot row in place of its variable, and brings the row to its lowest form. Where a number of it is wide,
-/// the answer is false and the form stands in `scratch`.
-pub fn eliminate(row: &mut [i64], pivot: &PivotRow, scratch: &mut [i128], width: u8) -> bool
+/// `eliminate` in words of 128 bits, which always suffice.
+fn eliminate_long(row: &mut [i64], pivot: &PivotRow, scratch: &mut [i128], width: u8) -> bool
     requires low { 1 ≤ width }
     requires high { width ≤ 62 }
     requires row { IsLowRow 62 row.old }
@@ -161,6 +164,68 @@ pub fn eliminate(row: &mut [i64], pivot: &PivotRow, scratch: &mut [i128], width:
         divide(scratch, divisor as i128);
     }
     store(scratch, width, row)
+}
+
+/// `eliminate` in words of 64 bits, where they suffice.
+fn eliminate_short(
+    row: &mut [i64],
+    pivot: &PivotRow,
+    shares: &Shares,
+    scratch: &mut [i128],
+    width: u8,
+) -> bool
+    requires low { 1 ≤ width }
+    requires high { width ≤ 62 }
+    requires row { IsLowRow 62 row.old }
+    requires pivot { AreNarrow 62 pivot.now.numbers.items }
+    requires shares { AreShares pivot.now.denominator (number row.old pivot.now.column) shares.now }
+    requires short { IsShort shares.now row.old pivot.now.numbers.items }
+    requires first { number pivot.now.numbers.items 0 ≡ pos 0 }
+    requires after { 2 ≤ pivot.now.column }
+    requires within { pivot.now.column < length row.old }
+    requires wide { length pivot.now.numbers.items ≡ length row.old }
+    requires room { length scratch.old ≡ length row.old }
+    ensures kept { length scratch.new ≡ length row.old }
+    ensures answer { MatchBool result
+        (IsCombination row.old pivot.now.column pivot.now.numbers.items pivot.now.denominator row.new × AreNarrow width row.new)
+        (IsCombination row.old pivot.now.column pivot.now.numbers.items pivot.now.denominator scratch.new × IsWideRow width scratch.new) }
+{
+    row[pivot.column] = 0;
+    mix(row, shares, &pivot.numbers);
+    lower(row);
+    if are_narrow(row, width) {
+        return true;
+    }
+    widen(row, scratch);
+    false
+}
+
+/// Puts the pivot row in place of its variable, and brings the row to its lowest form. Where a number of it is wide,
+/// the answer is false and the form stands in `scratch`.
+pub fn eliminate(row: &mut [i64], pivot: &PivotRow, scratch: &mut [i128], width: u8) -> bool
+    requires low { 1 ≤ width }
+    requires high { width ≤ 62 }
+    requires row { IsLowRow 62 row.old }
+    requires pivot { AreNarrow 62 pivot.now.numbers.items }
+    requires largest { IsLargest pivot.now.numbers.items pivot.now.largest }
+    requires denominator { unsigned_abs pivot.now.denominator < 2 ^ 62 }
+    requires positive { pos 0 <ℤ pivot.now.denominator }
+    requires first { number pivot.now.numbers.items 0 ≡ pos 0 }
+    requires after { 2 ≤ pivot.now.column }
+    requires within { pivot.now.column < length row.old }
+    requires wide { length pivot.now.numbers.items ≡ length row.old }
+    requires room { length scratch.old ≡ length row.old }
+    ensures kept { length scratch.new ≡ length row.old }
+    ensures answer { MatchBool result
+        (IsCombination row.old pivot.now.column pivot.now.numbers.items pivot.now.denominator row.new × AreNarrow width row.new)
+        (IsCombination row.old pivot.now.column pivot.now.numbers.items pivot.now.denominator scratch.new × IsWideRow width scratch.new) }
+{
+    let shares = share_out(pivot.denominator, row[pivot.column]);
+    if is_short(row, &shares, &pivot.numbers, pivot.largest) {
+        eliminate_short(row, pivot, &shares, scratch, width)
+    } else {
+        eliminate_long(row, pivot, scratch, width)
+    }
 }
 
 /// The first wide number of a row, in the order of the variables.

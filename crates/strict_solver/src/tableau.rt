@@ -65,6 +65,7 @@ impl Tableau {
                 column: 0,
                 denominator: 1,
                 numbers: vec![in alloc; 0; stride]?,
+                largest: 0,
             },
             scratch: vec![in alloc; 0; stride]?,
         };

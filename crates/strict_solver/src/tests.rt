@@ -2,6 +2,9 @@
 ghost use Rattle.std.specs.Prelude.{◌≤◌, length, unsigned_abs, IfOk, IfSome};
 ghost use Rattle.strict_solver.specs.Starts.{IsFoldOver, AreFoldsOver};
 
+use crate::grid::Grid;
+use crate::place::Place;
+use crate::row::PivotRow;
 use crate::{Solved, Tableau};
 use ntfe_model::Fold;
 use std::alloc::Global;
@@ -56,6 +59,37 @@ fn folds(alloc: Global, table: &[[i64; 6]]) -> Result<Vec<Fold>, Fail>
     Ok(list)
 }
 
+/// The folds of the first choice of a product of two triangles, which has fifteen points.
+const FIRST_CHOICE: [[i64; 6]; 27] = [
+    [8, 9, 10, 11, -1, 3],
+    [9, 10, 8, 11, 3, -1],
+    [9, 11, 8, 10, 3, -1],
+    [12, 13, 14, 15, -1, 3],
+    [13, 14, 12, 15, 3, -1],
+    [13, 15, 12, 14, 3, -1],
+    [11, 14, 10, 15, 1, 1],
+    [10, 12, 8, 14, 1, 1],
+    [11, 12, 8, 15, 1, 1],
+    [1, 2, 3, 4, -1, 3],
+    [2, 3, 1, 4, 3, -1],
+    [2, 4, 1, 3, 3, -1],
+    [4, 10, 3, 11, 1, 1],
+    [3, 8, 1, 10, 1, 1],
+    [4, 8, 1, 11, 1, 1],
+    [4, 14, 3, 15, 1, 1],
+    [3, 12, 1, 14, 1, 1],
+    [4, 12, 1, 15, 1, 1],
+    [3, 6, 10, 14, -1, 3],
+    [6, 10, 3, 14, 3, -1],
+    [6, 14, 3, 10, 3, -1],
+    [4, 7, 11, 15, -1, 3],
+    [7, 11, 4, 15, 3, -1],
+    [7, 15, 4, 11, 3, -1],
+    [1, 5, 8, 12, -1, 3],
+    [5, 8, 1, 12, 3, -1],
+    [5, 12, 1, 8, 3, -1],
+];
+
 #[test]
 fn no_rows(rt: HostRuntime) -> Result<(), Fail> {
     let mut tableau = Tableau::reserve(rt.alloc(), 3, 5)?;
@@ -93,38 +127,7 @@ fn cancelling_folds(rt: HostRuntime) -> Result<(), Fail> {
 
 #[test]
 fn folds_of_fifteen_faces(rt: HostRuntime) -> Result<(), Fail> {
-    let rows = folds(
-        rt.alloc(),
-        &[
-            [8, 9, 10, 11, -1, 3],
-            [9, 10, 8, 11, 3, -1],
-            [9, 11, 8, 10, 3, -1],
-            [12, 13, 14, 15, -1, 3],
-            [13, 14, 12, 15, 3, -1],
-            [13, 15, 12, 14, 3, -1],
-            [11, 14, 10, 15, 1, 1],
-            [10, 12, 8, 14, 1, 1],
-            [11, 12, 8, 15, 1, 1],
-            [1, 2, 3, 4, -1, 3],
-            [2, 3, 1, 4, 3, -1],
-            [2, 4, 1, 3, 3, -1],
-            [4, 10, 3, 11, 1, 1],
-            [3, 8, 1, 10, 1, 1],
-            [4, 8, 1, 11, 1, 1],
-            [4, 14, 3, 15, 1, 1],
-            [3, 12, 1, 14, 1, 1],
-            [4, 12, 1, 15, 1, 1],
-            [3, 6, 10, 14, -1, 3],
-            [6, 10, 3, 14, 3, -1],
-            [6, 14, 3, 10, 3, -1],
-            [4, 7, 11, 15, -1, 3],
-            [7, 11, 4, 15, 3, -1],
-            [7, 15, 4, 11, 3, -1],
-            [1, 5, 8, 12, -1, 3],
-            [5, 8, 1, 12, 3, -1],
-            [5, 12, 1, 8, 3, -1],
-        ],
-    )?;
+    let rows = folds(rt.alloc(), &FIRST_CHOICE)?;
     let mut tableau = Tableau::reserve(rt.alloc(), 27, 15)?;
     let Solved::Feasible = tableau.solve(&rows, 62) else {
         return Err(Fail::new("no heights"));
@@ -133,5 +136,60 @@ fn folds_of_fifteen_faces(rt: HostRuntime) -> Result<(), Fail> {
         tableau.heights(),
         [6, 3, 3, 1, 3, 1, 0, 3, 1, 1, 0, 1, 0, 0, 0].as_slice()
     );
+    Ok(())
+}
+
+/// The row of a height that is basic.
+fn row_of(grid: &Grid, height: usize) -> Option<usize> {
+    match grid.places.get(height) {
+        Some(Place::Row(r)) => Some(*r),
+        _ => None,
+    }
+}
+
+#[test]
+fn loading_of_fifteen_faces(rt: HostRuntime) -> Result<(), Fail> {
+    let rows = folds(rt.alloc(), &FIRST_CHOICE)?;
+    let mut grid = Grid {
+        columns: 15,
+        cells: vec![in rt.alloc(); 0; 459]?,
+        places: Vec::with_capacity(rt.alloc(), 42)?,
+        pivot: PivotRow {
+            row: 0,
+            column: 0,
+            denominator: 1,
+            numbers: vec![in rt.alloc(); 0; 17]?,
+            largest: 0,
+        },
+        scratch: vec![in rt.alloc(); 0; 17]?,
+    };
+    let None = grid.start(&rows, 62) else {
+        return Err(Fail::new("the start"));
+    };
+    let Ok(pivots) = grid.load(62) else {
+        return Err(Fail::new("the loading"));
+    };
+    assert_eq!(rt; pivots, 10);
+    // The slacks whose places the heights took, and heights that keep the value 0.
+    let taken = [
+        Some(9),
+        Some(13),
+        Some(12),
+        Some(18),
+        Some(24),
+        Some(21),
+        None,
+        Some(0),
+        Some(7),
+        Some(6),
+        None,
+        Some(3),
+        None,
+        None,
+        None,
+    ];
+    for height in 0..15 {
+        assert_eq!(rt; row_of(&grid, height), taken[height]);
+    }
     Ok(())
 }

@@ -69,7 +69,7 @@ eliminate_rows-requires-clause-pivot c =
     let mid = c.take_pivot_row.new.self.cells.items in
     let count : length c.deref_mut-2.result.now ≡ g.columns + 2 = ap (λ (k : List ℤ). length k) c.deref_mut-2.ensures.value ∙ scratch_count a in
     pivot_row c.args.width c.args.leaving c.args.entering c.args.r c.args.p g mid c.requires.grid c.requires.leaves c.requires.enters c.requires.some e.solved e.others
-    c.take_pivot_row.new.self.pivot e.row e.column e.denominator e.numbers (length c.deref_mut-2.result.now) count c.requires.high
+    c.take_pivot_row.new.self.pivot e.row e.column e.denominator e.numbers (length c.deref_mut-2.result.now) count c.requires.high e.largest
 
 pub eliminate_rows-requires-clause-rows : goal.eliminate_rows-requires-clause-rows
 eliminate_rows-requires-clause-rows c =

@@ -1,12 +1,12 @@
-use Rattle.std.proofs.Common.{◌≡◌, ℕ, ◌∙◌, sym, ap, subst, arith, Bool, true, false, ℤ, pos, ◌^◌, ◌<◌, ◌*ℤ◌, ◌+ℤ◌, ◌<ℤ◌, List, set, length-set, to_z, unsigned_abs, MatchBool}
+use Rattle.std.proofs.Common.{◌≡◌, ℕ, ◌∙◌, sym, ap, refl, subst, arith, Bool, true, false, ℤ, pos, ◌^◌, ◌<◌, ◌*ℤ◌, ◌+ℤ◌, ◌<ℤ◌, List, set, length-set, to_z, unsigned_abs, MatchBool}
 use Rattle.std.specs.Int.{w128, ◌∣◌}
 use Rattle.std.proofs.lemmas.Int.{ints, to_z_pos, fits_signed_from_abs}
 use Rattle.ntfe_nums.proofs.Ring.{one_product}
 use Rattle.strict_solver.specs.Rows.{number, AreNarrow, IsWideRow, IsCombination}
 use Rattle.strict_solver.proofs.Rows.{unwrap64}
 use Rattle.strict_solver.proofs.Combine.{AreSums, first_some, divisor_positive, divisor_small, combined}
-use Rattle.strict_solver.proofs.row.eliminate.Goals as goal
-use Rattle.strict_solver.proofs.row.eliminate.Goals.{then-divisor-ne1, else-divisor-ne1, After-common_divisor-divisor}
+use Rattle.strict_solver.proofs.row.eliminate_long.Goals as goal
+use Rattle.strict_solver.proofs.row.eliminate_long.Goals.{then-divisor-ne1, else-divisor-ne1, After-common_divisor-divisor}
 
 module _ (c : After-common_divisor-divisor) where
   sums : AreSums c.args.row.now c.args.pivot.now.column c.args.pivot.now.numbers.items c.args.pivot.now.denominator c.combine.new.out
@@ -65,11 +65,11 @@ returns-clause-answer c =
     elim c.if-divisor-ne1.branch [
       | then-divisor-ne1 w ↦
           subst P (sym w.scratch-is)
-          (combined old p piv den c.combine.new.out w.divide.new.numbers g (sums s) c.common_divisor-divisor.ensures (positive s) (w.divide.ensures.count ∙ c.combine.ensures.count ∙ length-set old p (pos 0))
+          (combined old p piv den c.combine.new.out w.divide.new.numbers g (sums s) c.common_divisor-divisor.ensures (positive s) (c.combine.ensures.count ∙ length-set old p (pos 0)) w.divide.ensures.count
           (λ j. ap (λ z. z *ℤ number w.divide.new.numbers j) (sym (word s)) ∙ w.divide.ensures.each j))
       | else-divisor-ne1 w ↦
           subst P (sym w.scratch-is)
-          (combined old p piv den c.combine.new.out c.combine.new.out g (sums s) c.common_divisor-divisor.ensures (positive s) (c.combine.ensures.count ∙ length-set old p (pos 0))
+          (combined old p piv den c.combine.new.out c.combine.new.out g (sums s) c.common_divisor-divisor.ensures (positive s) (c.combine.ensures.count ∙ length-set old p (pos 0)) refl
           (λ j. ap (λ n. pos n *ℤ number c.combine.new.out j) w.if-divisor-ne1.false ∙ one_product (number c.combine.new.out j)))
     ] in
     answer c.store.result old c.store.new.row c.if-divisor-ne1.scratch c.args.width p piv den form c.store.ensures

@@ -1,0 +1,16 @@
+-- A number that divides all numbers so far, in a loop over the numbers of a row.
+use Rattle.std.proofs.Common.{◌≡◌, ℕ, ◌+◌, ◌<◌, ◌≤◌, sym, subst, ℤ, pos, List, length, unsigned_abs, below_more}
+use Rattle.std.specs.Int.{◌∣◌, IsGcd}
+use Rattle.std.proofs.lemmas.Nat.Gcd.{dvd_trans, dvd-zero}
+use Rattle.std.proofs.lemmas.List.{get_or_past}
+use Rattle.strict_solver.specs.Rows.{number}
+
+pub divides_next : (xs : List ℤ) (i d x g : ℕ) → x ≡ unsigned_abs (number xs i) → IsGcd d x g → ((k : ℕ) → k < i → d ∣ unsigned_abs (number xs k)) → (k : ℕ) → k < i + 1 → g ∣ unsigned_abs (number xs k)
+divides_next xs i d x g e h inv =
+    below_more _ _ (λ k l. dvd_trans g h.0 (inv k l)) (subst (λ z. g ∣ z) e h.1)
+
+pub greatest_next : (xs : List ℤ) (i d x g : ℕ) → x ≡ unsigned_abs (number xs i) → IsGcd d x g → ((m : ℕ) → ((k : ℕ) → m ∣ unsigned_abs (number xs k)) → m ∣ d) → (m : ℕ) → ((k : ℕ) → m ∣ unsigned_abs (number xs k)) → m ∣ g
+greatest_next xs i d x g e h inv m all = h.2 m (inv m all) (subst (λ z. m ∣ z) (sym e) (all i))
+
+pub divides_past : (xs : List ℤ) (d k : ℕ) → length xs ≤ k → d ∣ unsigned_abs (number xs k)
+divides_past xs d k h = subst (λ z. d ∣ unsigned_abs z) (sym (get_or_past xs k (pos 0) h)) (dvd-zero d)

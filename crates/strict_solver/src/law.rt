@@ -1,0 +1,17 @@
+//! How many pivots the stated solver makes.
+ghost use Rattle.std.specs.Prelude.{ℕ, ◌+◌, ◌^◌, ◌<◌, ℤ, List, length};
+ghost use Rattle.ntfe_model.specs.Solver.{Table, start_table, IsRun};
+ghost use Rattle.strict_solver.specs.Lengths.{AreRowsOver, IsMovingRun};
+
+/// A law: where n rows have a coefficient for each height, fewer than 2^n pivots come once no height is left to be
+/// loaded. Heights neither enter nor leave then, and no set of basic slacks comes twice. The function does nothing: its
+/// contract is the law.
+pub fn moving_is_short()
+    ensures { (columns : ℕ) (rs : List (List ℤ)) (s : Table) (moved : List Table) (t : Table) → AreRowsOver columns rs → IsMovingRun columns rs s moved t → length moved < 2 ^ length rs }
+{}
+
+/// A law: over N heights and n rows with a coefficient for each, a whole run makes fewer than N + 2^n pivots, since each
+/// height is loaded once at most. The function does nothing: its contract is the law.
+pub fn run_is_short()
+    ensures { (columns : ℕ) (rs : List (List ℤ)) (tables : List Table) (t : Table) → AreRowsOver columns rs → IsRun columns (start_table columns rs) tables t → length tables < columns + 2 ^ length rs }
+{}
