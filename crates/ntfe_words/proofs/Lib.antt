@@ -1,2 +1,11 @@
-pub mod Settings
+pub mod Rows
+pub mod Grammar
+pub mod Forms
+pub mod Uses
+pub mod Plausible
+pub mod Turns
+pub mod Held
+pub mod Walks
 pub mod Words
+pub mod Found
+pub mod Commands

@@ -1,3 +1,3 @@
 pub mod CommandLine
-pub mod Readers
-pub mod Reads
+pub mod Grammar
+pub mod Parse

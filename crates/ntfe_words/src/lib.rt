@@ -2,13 +2,12 @@
 #![tactic(auto)]
 
 mod command;
+mod command_line;
 mod fault;
-mod kind;
+mod given;
 mod meaning;
 mod number;
 mod options;
-mod reader;
-mod setting;
 
 pub use command::{Command, Options};
 pub use fault::WordFault;

@@ -1,15 +1,13 @@
 //! The command that words mean.
 ghost use Rattle.std.specs.Prelude.{◌≡◌, [], ◌∷◌, codes, map, string_bytes, IfOk};
-ghost use Rattle.ntfe_words.specs.CommandLine.{IsMeaning, HasMeaning};
-ghost use Rattle.ntfe_words.specs.Readers.{settings_now, reading_now};
-ghost use Rattle.ntfe_words.specs.Reads.{IsCommandOf};
+ghost use Rattle.ntfe_words.specs.CommandLine.{Reading, IsMeaning, HasMeaning};
+ghost use Rattle.ntfe_words.specs.Parse.{IsGiven, IsCommandOf};
 
 use crate::command::Command;
 use crate::fault::WordFault;
+use crate::given::{Given, parse};
 use crate::number::number;
-use crate::options::{are_of_demo, options_of, width, workers};
-use crate::reader::{Reader, read};
-use crate::setting::Setting;
+use crate::options::{has_demo_option, has_list_option, options_of, width, workers};
 use std::alloc::Global;
 
 /// The command that the words mean, without the program's name; `Usage` exactly where they have no meaning, or `Memory`.
@@ -18,50 +16,47 @@ pub fn read_words(alloc: Global, words: &[String]) -> Result<Command, WordFault>
     ensures only { IfOk result (λ command. (other : Command) → IsMeaning (map string_bytes words.now) other → other ≡ command) }
     ensures usage { result ≡ Err WordFault.Usage → ¬ (HasMeaning (map string_bytes words.now)) }
 {
-    let reader = read(alloc, words)?;
-    match command_of(&reader) {
+    let given = parse(alloc, words)?;
+    match command_of(&given) {
         Some(command) => Ok(command),
         None => Err(WordFault::Usage),
     }
 }
 
-/// The command that plain words and options mean.
-fn command_of(reader: &Reader) -> Option<Command>
-    ensures { IsCommandOf (reading_now reader.now) result }
+/// The command that the plain words name, where it takes the options that are given.
+fn command_of(given: &Given) -> Option<Command>
+    ensures { (r : Reading) → IsGiven r given.now → IsCommandOf r result }
 {
-    let settings = reader.settings.as_slice();
-    match reader.plains.as_slice() {
-        [name] => lone_command(name, settings),
-        [name, number] if *name == b"demo".as_slice() => demo(number, settings),
+    match (given.name, given.number) {
+        (Some("classes"), None) => Some(Command::Classes(options_of(given)?)),
+        (Some("resume"), None) => Some(Command::Resume(options_of(given)?)),
+        (Some("faces"), None) => faces(given),
+        (Some("demo"), Some(word)) => demo(given, word),
         _ => None,
     }
 }
 
-/// The command of one plain word.
-fn lone_command(name: &[u8], settings: &[Setting]) -> Option<Command>
-    ensures { IsCommandOf (record { plains = name.now ∷ []; settings = settings_now settings.now }) result }
+/// The listing of points and two-faces, which takes no option.
+fn faces(given: &Given) -> Option<Command>
+    ensures { (r : Reading) → IsGiven r given.now → r.plains ≡ codes "faces" ∷ [] → IsCommandOf r result }
 {
-    if name == b"classes".as_slice() {
-        Some(Command::Classes(options_of(settings)?))
-    } else if name == b"resume".as_slice() {
-        Some(Command::Resume(options_of(settings)?))
-    } else if name == b"faces".as_slice() && settings.is_empty() {
-        Some(Command::Faces)
-    } else {
+    if has_demo_option(given) || has_list_option(given) {
         None
+    } else {
+        Some(Command::Faces)
     }
 }
 
-/// The command of the plain words `demo` and this one.
-fn demo(word: &[u8], settings: &[Setting]) -> Option<Command>
-    ensures { IsCommandOf (record { plains = codes "demo" ∷ word.now ∷ []; settings = settings_now settings.now }) result }
+/// The command `demo` of the number that this word is, which takes two of the options.
+fn demo(given: &Given, word: &str) -> Option<Command>
+    ensures { (r : Reading) → IsGiven r given.now → r.plains ≡ codes "demo" ∷ word.entry.now ∷ [] → IsCommandOf r result }
 {
-    if !are_of_demo(settings) {
+    if has_list_option(given) {
         return None;
     }
     Some(Command::Demo {
-        number: number(word, 1, 5)? as u8,
-        workers: workers(settings)?,
-        width: width(settings)?,
+        number: number(word.as_bytes(), 1, 5)? as u8,
+        workers: workers(given.workers)?,
+        width: width(given.width)?,
     })
 }
