@@ -1,0 +1,188 @@
+-- A point as a mixture of four others: Cramer's rule gives the multipliers, and where the four are independent there are no others.
+use Rattle.std.proofs.Common.{◌≡◌, ◌≢◌, ℕ, ◌+◌, ◌∙◌, ⊎_elim, refl, sym, ap, subst, ℤ, pos, negsuc, ◌+ℤ◌, ◌-ℤ◌, ◌*ℤ◌, ◌<ℤ◌, ◌≤ℤ◌, neg_ℤ, List, [], ◌∷◌, map, unsigned_abs, arith}
+use Rattle.std.proofs.lemmas.Int.{ints}
+use Rattle.ntfe_nums.specs.Vectors.{Vector, vector_sum, multiple, det4, AreLinearlyIndependent}
+use Rattle.ntfe_model.specs.Points.{place_of_point}
+use Rattle.ntfe_model.specs.Choices.{height}
+use Rattle.ntfe_model.specs.Stars.{IsMixture, IsLexAbove, IsFirstPositive, push_coefficient}
+use Rattle.ntfe_model.specs.declared.point.Point.{Point}
+use Rattle.ntfe_nums.proofs.Ring.{Expression, ring}
+use Rattle.ntfe_nums.proofs.Ring.Expression.{var, plus, minus, times, neg}
+use Rattle.ntfe_nums.proofs.DetLemmas.{Row, row, det4E}
+use Rattle.ntfe_model.proofs.PlaneNumbers.{zero_factor}
+
+-- z, turned over where the determinant is negative
+abbrev pub turned : ℤ → ℤ → ℤ
+turned (pos n) z = z
+turned (negsuc n) z = neg_ℤ z
+
+-- ---- Cramer's rule
+
+abbrev pub of5 : Vector → Vector → Vector → Vector → Vector → List ℤ
+of5 a b c d p = a.x1 ∷ a.x2 ∷ a.x3 ∷ a.x4 ∷ b.x1 ∷ b.x2 ∷ b.x3 ∷ b.x4 ∷ c.x1 ∷ c.x2 ∷ c.x3 ∷ c.x4 ∷ d.x1 ∷ d.x2 ∷ d.x3 ∷ d.x4 ∷ p.x1 ∷ p.x2 ∷ p.x3 ∷ p.x4 ∷ []
+
+-- the sum of four determinants, each times one of the four numbers
+abbrev cramer_sum : Expression → Expression → Expression → Expression → Expression
+cramer_sum x y z u =
+    plus (times (det4E (row 16) (row 4) (row 8) (row 12)) x) (plus (times (det4E (row 0) (row 16) (row 8) (row 12)) y)
+    (plus (times (det4E (row 0) (row 4) (row 16) (row 12)) z) (times (det4E (row 0) (row 4) (row 8) (row 16)) u)))
+
+abbrev det_times : Expression → Expression
+det_times x = times (det4E (row 0) (row 4) (row 8) (row 12)) x
+
+pub cramer : (a b c d p : Vector) → multiple (det4 a b c d) p
+    ≡ vector_sum (multiple (det4 p b c d) a) (vector_sum (multiple (det4 a p c d) b) (vector_sum (multiple (det4 a b p d) c) (multiple (det4 a b c p) d)))
+unfolding det4
+cramer a b c d p = λ i. record {
+  x1 = ring (of5 a b c d p) (det_times (var 16)) (cramer_sum (var 0) (var 4) (var 8) (var 12)) refl i;
+  x2 = ring (of5 a b c d p) (det_times (var 17)) (cramer_sum (var 1) (var 5) (var 9) (var 13)) refl i;
+  x3 = ring (of5 a b c d p) (det_times (var 18)) (cramer_sum (var 2) (var 6) (var 10) (var 14)) refl i;
+  x4 = ring (of5 a b c d p) (det_times (var 19)) (cramer_sum (var 3) (var 7) (var 11) (var 15)) refl i;
+}
+
+turned_vector : (t : ℤ) (k l m n : ℤ) (a b c d p : Vector)
+    → multiple t p ≡ vector_sum (multiple k a) (vector_sum (multiple l b) (vector_sum (multiple m c) (multiple n d)))
+    → multiple (pos (unsigned_abs t)) p ≡ vector_sum (multiple (turned t k) a) (vector_sum (multiple (turned t l) b) (vector_sum (multiple (turned t m) c) (multiple (turned t n) d)))
+turned_vector (pos t) k l m n a b c d p e = e
+turned_vector (negsuc t) k l m n a b c d p e = λ i. record {
+  x1 = (both a.x1 b.x1 c.x1 d.x1 p.x1 (ap (λ v. v.x1) e)) i;
+  x2 = (both a.x2 b.x2 c.x2 d.x2 p.x2 (ap (λ v. v.x2) e)) i;
+  x3 = (both a.x3 b.x3 c.x3 d.x3 p.x3 (ap (λ v. v.x3) e)) i;
+  x4 = (both a.x4 b.x4 c.x4 d.x4 p.x4 (ap (λ v. v.x4) e)) i;
+}
+  where
+    both : (x y z u q : ℤ) → negsuc t *ℤ q ≡ k *ℤ x +ℤ (l *ℤ y +ℤ (m *ℤ z +ℤ n *ℤ u))
+        → neg_ℤ (negsuc t) *ℤ q ≡ neg_ℤ k *ℤ x +ℤ (neg_ℤ l *ℤ y +ℤ (neg_ℤ m *ℤ z +ℤ neg_ℤ n *ℤ u))
+    both x y z u q f =
+        ring (negsuc t ∷ q ∷ []) (times (neg (var 0)) (var 1)) (neg (times (var 0) (var 1))) refl
+        ∙ ap neg_ℤ f
+        ∙ ring (k ∷ l ∷ m ∷ n ∷ x ∷ y ∷ z ∷ u ∷ [])
+        (neg (plus (times (var 0) (var 4)) (plus (times (var 1) (var 5)) (plus (times (var 2) (var 6)) (times (var 3) (var 7))))))
+        (plus (times (neg (var 0)) (var 4)) (plus (times (neg (var 1)) (var 5)) (plus (times (neg (var 2)) (var 6)) (times (neg (var 3)) (var 7))))) refl
+
+-- the multipliers of a point are determinants with it in the place of one of the four
+module _ (xs : List Point) (a b c d p : ℕ) where
+  pub mixture_exists : IsMixture xs a b c d p
+      (pos (unsigned_abs (det4 (place_of_point xs a) (place_of_point xs b) (place_of_point xs c) (place_of_point xs d))))
+      (turned (det4 (place_of_point xs a) (place_of_point xs b) (place_of_point xs c) (place_of_point xs d)) (det4 (place_of_point xs p) (place_of_point xs b) (place_of_point xs c) (place_of_point xs d)))
+      (turned (det4 (place_of_point xs a) (place_of_point xs b) (place_of_point xs c) (place_of_point xs d)) (det4 (place_of_point xs a) (place_of_point xs p) (place_of_point xs c) (place_of_point xs d)))
+      (turned (det4 (place_of_point xs a) (place_of_point xs b) (place_of_point xs c) (place_of_point xs d)) (det4 (place_of_point xs a) (place_of_point xs b) (place_of_point xs p) (place_of_point xs d)))
+      (turned (det4 (place_of_point xs a) (place_of_point xs b) (place_of_point xs c) (place_of_point xs d)) (det4 (place_of_point xs a) (place_of_point xs b) (place_of_point xs c) (place_of_point xs p)))
+  mixture_exists =
+      let s = place_of_point xs a in
+      let t = place_of_point xs b in
+      let u = place_of_point xs c in
+      let v = place_of_point xs d in
+      let q = place_of_point xs p in
+      record {
+        size_is = refl;
+        mix = turned_vector (det4 s t u v) (det4 q t u v) (det4 s q u v) (det4 s t q v) (det4 s t u q) s t u v q (cramer s t u v q);
+      }
+
+-- ---- there are no others
+
+abbrev mixed : ℤ → ℤ → ℤ → ℤ → Vector → Vector → Vector → Vector → Vector
+mixed k l m n a b c d = vector_sum (multiple k a) (vector_sum (multiple l b) (vector_sum (multiple m c) (multiple n d)))
+
+-- a row of the sums of four products, over the variables of four vectors and of four multipliers behind them
+abbrev entryE : ℕ → Expression
+entryE i = plus (times (var 16) (var i)) (plus (times (var 17) (var (4 + i))) (plus (times (var 18) (var (8 + i))) (times (var 19) (var (12 + i)))))
+
+abbrev mixedE : Row
+mixedE = record { x1 = entryE 0; x2 = entryE 1; x3 = entryE 2; x4 = entryE 3 }
+
+abbrev of4_with : Vector → Vector → Vector → Vector → ℤ → ℤ → ℤ → ℤ → List ℤ
+of4_with a b c d k l m n = of5 a b c d (record { x1 = k; x2 = l; x3 = m; x4 = n })
+
+module _ (k l m n : ℤ) (a b c d : Vector) where
+  first_multiplier : det4 (mixed k l m n a b c d) b c d ≡ k *ℤ det4 a b c d
+  unfolding det4
+  first_multiplier = ring (of4_with a b c d k l m n) (det4E mixedE (row 4) (row 8) (row 12)) (times (var 16) (det4E (row 0) (row 4) (row 8) (row 12))) refl
+
+  second_multiplier : det4 a (mixed k l m n a b c d) c d ≡ l *ℤ det4 a b c d
+  unfolding det4
+  second_multiplier = ring (of4_with a b c d k l m n) (det4E (row 0) mixedE (row 8) (row 12)) (times (var 17) (det4E (row 0) (row 4) (row 8) (row 12))) refl
+
+  third_multiplier : det4 a b (mixed k l m n a b c d) d ≡ m *ℤ det4 a b c d
+  unfolding det4
+  third_multiplier = ring (of4_with a b c d k l m n) (det4E (row 0) (row 4) mixedE (row 12)) (times (var 18) (det4E (row 0) (row 4) (row 8) (row 12))) refl
+
+  fourth_multiplier : det4 a b c (mixed k l m n a b c d) ≡ n *ℤ det4 a b c d
+  unfolding det4
+  fourth_multiplier = ring (of4_with a b c d k l m n) (det4E (row 0) (row 4) (row 8) mixedE) (times (var 19) (det4E (row 0) (row 4) (row 8) (row 12))) refl
+
+pub same_factor : (x y k : ℤ) → k ≢ pos 0 → x *ℤ k ≡ y *ℤ k → x ≡ y
+same_factor x y k ne e =
+    let q : (x -ℤ y) *ℤ k ≡ x *ℤ k -ℤ y *ℤ k = ring (x ∷ y ∷ k ∷ []) (times (minus (var 0) (var 1)) (var 2)) (minus (times (var 0) (var 2)) (times (var 1) (var 2))) refl in
+    ⊎_elim (λ z. same x y z) (λ z. absurd (ne z)) (zero_factor (x -ℤ y) k (q ∙ apart (x *ℤ k) (y *ℤ k) e))
+  where
+    same : (u v : ℤ) → u -ℤ v ≡ pos 0 → u ≡ v
+    same u v z = omega (arith, ints, z)
+
+    apart : (u v : ℤ) → u ≡ v → u -ℤ v ≡ pos 0
+    apart u v z = omega (arith, ints, z)
+
+-- independent vectors have one mixture with this sum
+pub same_multipliers : (k l m n k' l' m' n' : ℤ) (a b c d : Vector) → AreLinearlyIndependent a b c d
+    → vector_sum (multiple k a) (vector_sum (multiple l b) (vector_sum (multiple m c) (multiple n d)))
+    ≡ vector_sum (multiple k' a) (vector_sum (multiple l' b) (vector_sum (multiple m' c) (multiple n' d)))
+    → (k ≡ k') × (l ≡ l') × (m ≡ m') × (n ≡ n')
+same_multipliers k l m n k' l' m' n' a b c d ne e = (
+  same_factor k k' (det4 a b c d) ne (sym (first_multiplier k l m n a b c d) ∙ ap (λ v. det4 v b c d) e ∙ first_multiplier k' l' m' n' a b c d),
+  same_factor l l' (det4 a b c d) ne (sym (second_multiplier k l m n a b c d) ∙ ap (λ v. det4 a v c d) e ∙ second_multiplier k' l' m' n' a b c d),
+  same_factor m m' (det4 a b c d) ne (sym (third_multiplier k l m n a b c d) ∙ ap (λ v. det4 a b v d) e ∙ third_multiplier k' l' m' n' a b c d),
+  same_factor n n' (det4 a b c d) ne (sym (fourth_multiplier k l m n a b c d) ∙ ap (λ v. det4 a b c v) e ∙ fourth_multiplier k' l' m' n' a b c d),
+)
+
+-- two mixtures of independent points are the same
+pub mixture_unique : (xs : List Point) (a b c d p : ℕ) (size l1 l2 l3 l4 size' m1 m2 m3 m4 : ℤ)
+    → AreLinearlyIndependent (place_of_point xs a) (place_of_point xs b) (place_of_point xs c) (place_of_point xs d)
+    → IsMixture xs a b c d p size l1 l2 l3 l4 → IsMixture xs a b c d p size' m1 m2 m3 m4
+    → (size ≡ size') × (l1 ≡ m1) × (l2 ≡ m2) × (l3 ≡ m3) × (l4 ≡ m4)
+mixture_unique xs a b c d p size l1 l2 l3 l4 size' m1 m2 m3 m4 ne x y =
+    let e : size ≡ size' = x.size_is ∙ sym y.size_is in
+    let f = same_multipliers l1 l2 l3 l4 m1 m2 m3 m4 (place_of_point xs a) (place_of_point xs b) (place_of_point xs c) (place_of_point xs d) ne
+    (sym x.mix ∙ ap (λ s. multiple s (place_of_point xs p)) e ∙ y.mix) in
+    (e, f.0, f.1, f.2, f.3)
+
+-- ---- what a mixture says of the heights
+
+-- how far p lies above the four, by their heights and then by the order of pushing
+abbrev pub rises : List ℤ → List ℕ → ℕ → ℕ → ℕ → ℕ → ℕ → ℤ → ℤ → ℤ → ℤ → ℤ → List ℤ
+rises w order a b c d p size l1 l2 l3 l4 =
+    (size *ℤ height w p -ℤ (l1 *ℤ height w a +ℤ l2 *ℤ height w b +ℤ l3 *ℤ height w c +ℤ l4 *ℤ height w d))
+    ∷ map (push_coefficient size (a, l1) (b, l2) (c, l3) (d, l4) p) order
+
+-- any one mixture of independent points decides whether p is above them
+pub rises_of_above : (xs : List Point) (w : List ℤ) (order : List ℕ) (a b c d p : ℕ) (size l1 l2 l3 l4 : ℤ)
+    → AreLinearlyIndependent (place_of_point xs a) (place_of_point xs b) (place_of_point xs c) (place_of_point xs d)
+    → IsMixture xs a b c d p size l1 l2 l3 l4 → IsLexAbove xs w order a b c d p → IsFirstPositive (rises w order a b c d p size l1 l2 l3 l4)
+rises_of_above xs w order a b c d p size l1 l2 l3 l4 ne x u =
+    let e = mixture_unique xs a b c d p u.size u.l1 u.l2 u.l3 u.l4 size l1 l2 l3 l4 ne u.mixture x in
+    subst IsFirstPositive (λ i. rises w order a b c d p (e.0 i) (e.1 i) (e.2 i) (e.3 i) (e.4 i)) u.above
+
+-- ---- the mixture that code computes
+
+module _ (xs : List Point) (a b c d p : ℕ) (size l1 l2 l3 l4 : ℤ)
+    (es : size ≡ det4 (place_of_point xs a) (place_of_point xs b) (place_of_point xs c) (place_of_point xs d))
+    (e1 : l1 ≡ det4 (place_of_point xs p) (place_of_point xs b) (place_of_point xs c) (place_of_point xs d))
+    (e2 : l2 ≡ det4 (place_of_point xs a) (place_of_point xs p) (place_of_point xs c) (place_of_point xs d))
+    (e3 : l3 ≡ det4 (place_of_point xs a) (place_of_point xs b) (place_of_point xs p) (place_of_point xs d))
+    (e4 : l4 ≡ det4 (place_of_point xs a) (place_of_point xs b) (place_of_point xs c) (place_of_point xs p)) where
+  mixture_by_sign : IsMixture xs a b c d p (pos (unsigned_abs size)) (turned size l1) (turned size l2) (turned size l3) (turned size l4)
+  mixture_by_sign = subst (λ (u : ℤ × ℤ × ℤ × ℤ × ℤ). IsMixture xs a b c d p (pos (unsigned_abs u.0)) (turned u.0 u.1) (turned u.0 u.2) (turned u.0 u.3) (turned u.0 u.4))
+      (λ i. (sym es i, sym e1 i, sym e2 i, sym e3 i, sym e4 i)) (mixture_exists xs a b c d p)
+
+  pub mixture_plain : pos 0 ≤ℤ size → IsMixture xs a b c d p size l1 l2 l3 l4
+  mixture_plain h = by size h mixture_by_sign
+    where
+      by : (s : ℤ) → pos 0 ≤ℤ s → IsMixture xs a b c d p (pos (unsigned_abs s)) (turned s l1) (turned s l2) (turned s l3) (turned s l4) → IsMixture xs a b c d p s l1 l2 l3 l4
+      by (pos n) h m = m
+      by (negsuc n) h m = absurd (omega (arith, ints, h))
+
+  pub mixture_turned : size <ℤ pos 0 → IsMixture xs a b c d p (neg_ℤ size) (neg_ℤ l1) (neg_ℤ l2) (neg_ℤ l3) (neg_ℤ l4)
+  mixture_turned h = by size h mixture_by_sign
+    where
+      by : (s : ℤ) → s <ℤ pos 0 → IsMixture xs a b c d p (pos (unsigned_abs s)) (turned s l1) (turned s l2) (turned s l3) (turned s l4) → IsMixture xs a b c d p (neg_ℤ s) (neg_ℤ l1) (neg_ℤ l2) (neg_ℤ l3) (neg_ℤ l4)
+      by (pos n) h m = absurd (omega (arith, ints, h))
+      by (negsuc n) h m = m

@@ -1,0 +1,39 @@
+use Rattle.std.proofs.Common.{◌≡◌, ◌≢◌, ◌∙◌, sym, ap, subst, arith, take, pos, ℕ}
+use Rattle.std.specs.Prelude.{All, Any}
+use Rattle.std.proofs.lemmas.List.{take_all}
+use Rattle.std.proofs.lemmas.List.Elements.{All-same, All-more}
+use Rattle.star_builder.specs.declared.flat.Flat.{Flat}
+use Rattle.star_builder.specs.Flats.{flat_of, area_of_flats}
+use Rattle.ntfe_model.specs.Points.{place_of_point}
+use Rattle.star_builder.proofs.OutlineLemmas.{any_here}
+use Rattle.star_builder.proofs.span.has_second.Goals as goal
+
+pub loop-number-preserved : goal.loop-number-preserved
+loop-number-preserved c =
+    let ks = c.args.numbers.now in
+    let xs = c.args.points.now in
+    let i = c.loop-number.number-index in
+    let Q : Flat → Type 0 = λ b. All (λ k. area_of_flats c.args.a.now b (flat_of c.args.axes (place_of_point xs k)) ≡ pos 0) ks in
+    let P : ℕ → Type 0 = λ j. Q (flat_of c.args.axes (place_of_point xs j)) in
+    let here = c.place.ensures.value in
+    let flat = c.flatten-b.ensures.value ∙ ap (flat_of c.args.axes) here in
+    All-more P ks i 0 c.loop-number-test.true c.loop-number.invariant (subst Q flat (c.has_third.ensures.when_false c.if-has_third.false))
+
+pub returns-then-has_third-clause-when_true : goal.returns-then-has_third-clause-when_true
+returns-then-has_third-clause-when_true c =
+    let ks = c.args.numbers.now in
+    let xs = c.args.points.now in
+    let i = c.loop-number.number-index in
+    let Q : Flat → Type 0 = λ b. Any (λ k. area_of_flats c.args.a.now b (flat_of c.args.axes (place_of_point xs k)) ≢ pos 0) ks in
+    let P : ℕ → Type 0 = λ j. Q (flat_of c.args.axes (place_of_point xs j)) in
+    let here = c.place.ensures.value in
+    let flat = c.flatten-b.ensures.value ∙ ap (flat_of c.args.axes) here in
+    λ e. any_here P ks i c.loop-number-test.true (subst Q flat (c.has_third.ensures.when_true c.if-has_third.true))
+
+pub returns-clause-when_false : goal.returns-clause-when_false
+returns-clause-when_false c =
+    let ks = c.args.numbers.now in
+    let xs = c.args.points.now in
+    let i = c.loop-number.number-index in
+    let P : ℕ → Type 0 = λ j. All (λ k. area_of_flats c.args.a.now (flat_of c.args.axes (place_of_point xs j)) (flat_of c.args.axes (place_of_point xs k)) ≡ pos 0) ks in
+    λ e. All-same P ks (take i ks) (sym (take_all i ks (omega arith))) c.loop-number.invariant

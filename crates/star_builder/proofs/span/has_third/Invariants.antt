@@ -1,0 +1,8 @@
+use Rattle.std.proofs.Common.{◌≡◌, take, pos}
+use Rattle.std.specs.Prelude.{All}
+use Rattle.star_builder.specs.Flats.{flat_of, area_of_flats}
+use Rattle.ntfe_model.specs.Points.{place_of_point}
+use Rattle.star_builder.proofs.span.has_third.Given as goal
+
+abbrev pub invariant-loop-number : goal.invariant-loop-number
+invariant-loop-number l = All (λ k. area_of_flats l.a l.b (flat_of l.axes (place_of_point l.points k)) ≡ pos 0) (take l.number-index l.numbers)

@@ -1,0 +1,16 @@
+use Rattle.std.proofs.Common.{◌<◌, ◌∙◌, ap, arith, get_or, length}
+use Rattle.std.proofs.lemmas.List.Elements.{Contains-get_or}
+use Rattle.star_builder.specs.Flats.{flat_of}
+use Rattle.star_builder.proofs.SpanLemmas.{spans_decided}
+use Rattle.star_builder.proofs.span.spans.Goals as goal
+
+pub returns : goal.returns
+returns c =
+    let ks = c.args.numbers.now in
+    let xs = c.args.points.now in
+    let f = c.if-is_empty.false in
+    let g = c.is_empty.ensures in
+    let l : 0 < length ks = grind (arith, f, g) in
+    let here = c.place.ensures.value in
+    spans_decided ks xs c.args.axes c.flatten-a.result (get_or ks 0 0) c.has_second.result (Contains-get_or ks 0 0 l)
+    (c.flatten-a.ensures.value ∙ ap (flat_of c.args.axes) here) c.has_second.ensures.when_true c.has_second.ensures.when_false
