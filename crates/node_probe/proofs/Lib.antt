@@ -8,3 +8,4 @@ pub mod Refuting
 pub mod Solutions
 pub mod FindingLemmas
 pub mod ShelfLemmas
+pub mod Lifted

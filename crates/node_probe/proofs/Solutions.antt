@@ -1,5 +1,5 @@
 -- What the solver's answers on a head's folds say of the key.
-use Rattle.std.proofs.Common.{◌≡◌, ℕ, ◌<◌, ◌≤◌, subst, arith, refl, ℤ, pos, ◌<ℤ◌, ◌≤ℤ◌, List, length, map, get_or}
+use Rattle.std.proofs.Common.{◌≡◌, ℕ, ◌<◌, ◌≤◌, subst, arith, ℤ, pos, ◌<ℤ◌, ◌≤ℤ◌, List, length, map, get_or}
 use Rattle.std.specs.Prelude.{All, slice_get, Some, None}
 use Rattle.std.proofs.lemmas.Int.{ints}
 use Rattle.std.proofs.lemmas.List.Elements.{All-weaker}
@@ -12,7 +12,7 @@ use Rattle.ntfe_model.specs.declared.nogood.Fold.{Fold}
 use Rattle.fold_rows.specs.Rows.{IsSmallFold}
 use Rattle.strict_solver.specs.Starts.{IsFoldOver, AreFoldsOver}
 use Rattle.strict_solver.specs.Answers.{Answer}
-use Rattle.strict_solver.specs.Answers.Answer.{unsolved, feasible, infeasible}
+use Rattle.strict_solver.specs.Answers.Answer.{feasible, infeasible}
 use Rattle.strict_solver.specs.Solving.{AreMultipliers, HasSolved, HasMeaning}
 use Rattle.strict_solver.specs.declared.run.Solved.TheVariants.{Feasible, Infeasible, Wide}
 use Rattle.strict_solver.proofs.Agree.{one_answer}
@@ -99,9 +99,3 @@ pub solved_wide : (columns n width : ℕ) (qs rs : List Fold) (a : Answer) (step
 solved_wide columns n width qs rs a step number e f h =
     let P : ℕ × List Fold → Type 0 = λ t. IsWide t.0 (map (fold_row t.0) t.1) width step number in
     subst P (λ i. (e i, f i)) h.0
-
--- heights that some answer has
-pub has_heights : (columns width : ℕ) (rs : List (List ℤ)) (a : Answer) → HasSolved columns rs width Feasible a → (ws : List ℤ) × (a ≡ feasible ws)
-has_heights columns width rs (feasible ws) h = (ws, refl)
-has_heights columns width rs unsolved h = absurd h
-has_heights columns width rs (infeasible ms) h = absurd h

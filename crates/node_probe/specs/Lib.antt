@@ -1,4 +1,5 @@
 pub mod Heads
 pub mod Refutations
 pub mod Findings
+pub mod Lifted
 pub mod Shelves

@@ -5,6 +5,7 @@ mod assembling;
 mod fetching;
 mod finding;
 mod head;
+mod heights;
 mod probing;
 mod shelf;
 mod solving;

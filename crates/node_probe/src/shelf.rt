@@ -1,13 +1,16 @@
-//! The folds of a geometry's items, kept.
-ghost use Rattle.std.specs.Prelude.{◌≡◌, ◌<◌, ◌≤◌, ◌^◌, length, IfOk, OnOk};
+//! What probes of a geometry's keys keep: the folds of its items, and heights.
+ghost use Rattle.std.specs.Prelude.{◌≡◌, ◌<◌, ◌≤◌, ◌^◌, true, length, All, IfOk, OnOk};
+ghost use Rattle.fold_rows.specs.Rows.{IsSmallFold};
 ghost use Rattle.ntfe_model.specs.Words.{IsItem};
 ghost use Rattle.ntfe_model.specs.Charts.{patch_at};
 ghost use Rattle.ntfe_model.specs.Books.{KeepsItem};
 ghost use Rattle.ntfe_model.specs.Keys.{item_limit, IsKey};
 ghost use Rattle.node_probe.specs.Heads.{KeepsHead, AreHeadRows};
+ghost use Rattle.node_probe.specs.Lifted.{AreLifted};
 ghost use Rattle.node_probe.specs.Shelves.{patches, AreShelved, HasNoOthers, HasFolds, AddsItem};
 
 use crate::head::{HeadRows, add_rows};
+use crate::heights::StemHeights;
 use face_chart::Chart;
 use fold_rows::folds;
 use ntfe_model::{Book, Fold, Geometry, Key, List, Triangulation};
@@ -142,11 +145,12 @@ fn shelved_rows<B: Book>(
     Ok(rows)
 }
 
-/// The charts of a geometry's two-faces, with the folds of their items that were asked for. Contracts
-/// see the patches.
+/// The charts of a geometry's two-faces, with the folds of their items that were asked for, and the
+/// heights that the solver found on the way to the last key. Contracts see the patches.
 #[derive(Drop)]
 pub struct Shelf {
     faces: Vec<FaceShelf>,
+    heights: StemHeights,
 }
 
 impl Model for Shelf {
@@ -159,7 +163,7 @@ impl Model for Shelf {
 }
 
 impl Shelf {
-    /// The shelf of a geometry, with no folds yet.
+    /// The shelf of a geometry, with no folds and no heights yet.
     ///
     /// # Errors
     /// `AllocError` where memory is short.
@@ -172,7 +176,39 @@ impl Shelf {
             let chart = face_chart::chart(alloc, geometry, face as u32)?;
             faces.push(FaceShelf::new(alloc, chart))?;
         }
-        Ok(Shelf { faces })
+        Ok(Shelf {
+            faces,
+            heights: StemHeights::new(alloc, count)?,
+        })
+    }
+
+    /// Keeps heights that lift the folds of the key.
+    ///
+    /// # Errors
+    /// `AllocError` where memory is short.
+    pub(crate) fn keep_heights(&mut self, key: &Key, heights: &[i64]) -> Result<(), AllocError>
+        requires { 1 ≤ length key.now }
+        ensures { self.new ≡ self.old }
+    {
+        self.heights.keep(key.0.as_slice().len() - 1, heights)
+    }
+
+    /// Whether the heights of the key's stem, one for each point, lift the folds of the key.
+    ///
+    /// # Errors
+    /// `AllocError` where memory is short.
+    pub(crate) fn lift(
+        &mut self,
+        key: &Key,
+        folds: &[Fold],
+        points: usize,
+    ) -> Result<bool, AllocError>
+        requires some { 1 ≤ length key.now }
+        requires small { All IsSmallFold folds.now }
+        ensures same { self.new ≡ self.old }
+        ensures lifted { IfOk result (λ lifted. lifted ≡ true → AreLifted points folds.now) }
+    {
+        self.heights.lift(key.0.as_slice().len() - 1, folds, points)
     }
 
     /// The folds of the head's items, which the book keeps.

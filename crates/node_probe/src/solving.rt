@@ -1,13 +1,15 @@
 //! The solver on the folds of a head.
-ghost use Rattle.std.specs.Prelude.{◌≡◌, ◌<◌, ◌≤◌, length, IfOk, OnOk};
+ghost use Rattle.std.specs.Prelude.{◌≡◌, ◌<◌, ◌≤◌, ℕ, true, length, IfOk, OnOk};
 ghost use Rattle.ntfe_model.specs.Shapes.{IsShape};
 ghost use Rattle.ntfe_model.specs.Keys.{IsKey};
 ghost use Rattle.node_probe.specs.Heads.{AreHeadRows};
 ghost use Rattle.node_probe.specs.Findings.{IsWithin, IsSolution};
+ghost use Rattle.node_probe.specs.declared.finding.Finding.TheVariants.{Descend};
 
 use crate::assembling::certificate;
 use crate::finding::Finding;
 use crate::head::HeadRows;
+use crate::shelf::Shelf;
 use ntfe_model::{Geometry, Heights, Key, List};
 use std::alloc::{AllocError, Global};
 use strict_solver::{Solved, Tableau};
@@ -30,12 +32,34 @@ pub fn make_room(
     Ok(())
 }
 
-/// What the solver finds on the folds of a head.
+/// Whether a two-face is left and heights that are kept lift the folds of the head. Then these can't
+/// cancel, and the solver need not be asked.
+pub fn is_lifted(
+    geometry: &Geometry,
+    key: &Key,
+    rows: &HeadRows,
+    shelf: &mut Shelf,
+) -> Result<bool, AllocError>
+    requires shape { IsShape geometry.now }
+    requires key { IsKey geometry.now key.now }
+    requires within { IsWithin geometry.now key.now }
+    requires rows { AreHeadRows geometry.now key.now rows.now.folds.items rows.now.faces.items }
+    ensures same { shelf.new ≡ shelf.old }
+    ensures solution { IfOk result (λ lifted. lifted ≡ true → (width : ℕ) → IsSolution geometry.now width key.now Descend) }
+{
+    if key.0.as_slice().len() == geometry.faces().len() {
+        return Ok(false);
+    }
+    shelf.lift(key, rows.folds.as_slice(), geometry.points().len())
+}
+
+/// What the solver finds on the folds of a head. Heights that it finds are kept on the shelf.
 pub fn solve_head(
     alloc: Global,
     geometry: &Geometry,
     key: &Key,
     rows: &HeadRows,
+    shelf: &mut Shelf,
     tableau: &mut Tableau,
     width: u8,
 ) -> Result<Finding, AllocError>
@@ -47,6 +71,7 @@ pub fn solve_head(
     requires room { length rows.now.folds.items ≤ tableau.old.rows }
     requires low { 1 ≤ width }
     requires high { width ≤ 62 }
+    ensures patches { shelf.new ≡ shelf.old }
     ensures columns { tableau.new.columns ≡ tableau.old.columns }
     ensures solution { IfOk result (IsSolution geometry.now width key.now) }
 {
@@ -57,7 +82,11 @@ pub fn solve_head(
             Ok(Finding::Refuted(nogood))
         }
         Solved::Wide { step, number } if whole => Ok(Finding::Wide { step, number }),
-        Solved::Feasible if whole => {
+        Solved::Feasible => {
+            shelf.keep_heights(key, tableau.heights())?;
+            if !whole {
+                return Ok(Finding::Descend);
+            }
             let heights = Vec::from_slice(alloc, tableau.heights())?;
             Ok(Finding::Class(Heights(List::from_vec(heights))))
         }

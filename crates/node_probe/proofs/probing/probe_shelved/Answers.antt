@@ -3,7 +3,7 @@ use Rattle.ntfe_model.specs.Shapes.{Shape}
 use Rattle.ntfe_model.specs.Keys.{AreHeadFolds}
 use Rattle.std.proofs.Math.Facts.{Fits-below}
 use Rattle.node_probe.proofs.Counts.{head_few}
-use Rattle.node_probe.proofs.KeyLemmas.{match_some}
+use Rattle.node_probe.proofs.KeyLemmas.{match_none, match_some}
 use Rattle.node_probe.proofs.FindingLemmas.{key_few}
 use Rattle.node_probe.proofs.probing.probe_shelved.Goals as goal
 
@@ -21,3 +21,8 @@ overflow_cast-len g c =
 
 pub returns-in-Some-clause-finding : goal.returns-in-Some-clause-finding
 returns-in-Some-clause-finding g c = match_some _ _ c.in_ok-finding.field-0 c.in-Some.finding c.in_ok-finding.ensures.finding c.in-Some.is c.args.width
+
+pub returns-then-branch-clause-finding : goal.returns-then-branch-clause-finding
+returns-then-branch-clause-finding g c =
+    let before = match_none _ _ c.in_ok-finding.field-0 c.in_ok-finding.ensures.finding c.in_default.is in
+    (before.0, before.1, c.in_ok-is_lifted.ensures.solution c.if-branch.true c.args.width)
