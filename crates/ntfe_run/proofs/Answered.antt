@@ -27,12 +27,12 @@ module _ (task : Task) (g : Shape) (left left' : Option (List ℕ)) (source sour
   answer_cause (Overflow choice step number) h = (g, read, by task h.is)
     where
       by : (t : Task) → IsWideEnd t choice step number g h.text → IsTooWide t choice step number g
-      by (Classes push width) w = w.0
+      by (Classes push stars width) w = w.0
       by Faces w = absurd w
   answer_cause (Limit face) h = (g, read, by task h.is)
     where
       by : (t : Task) → IsFarEnd t face g h.text → HasTooMany t face g
-      by (Classes push width) w = (w.0, w.1)
+      by (Classes push stars width) w = (w.0, w.1)
       by Faces w = absurd w
   answer_cause (Refused refusal) h = absurd h
   answer_cause Memory h = tt

@@ -55,23 +55,23 @@ reading_fixed r (command.Demo n workers width) (command.Resume p) h k = let e = 
 reading_fixed r (command.Demo n workers width) command.Faces h k = let e = sym h.plains ∙ k.0 in cc
 reading_fixed r (command.Demo n workers width) (command.Demo m others wide) h k = (let e = demo_fixed r n workers width m others wide h k in λ i. command.Demo (e.0 i) (e.1 i) (e.2 i))
 
-meaning_fixed : (words : List (List ℕ)) (c d : Command) → IsMeaning words c → IsMeaning words d → c ≡ d
+pub meaning_fixed : (words : List (List ℕ)) (c d : Command) → IsMeaning words c → IsMeaning words d → c ≡ d
 meaning_fixed words c d h k =
     let e : h.read ≡ k.read = cc (h.reads, k.reads) in
     reading_fixed k.read c d (subst (λ (r : Reading). IsMeaningOf r c) e h.means) k.means
 
 task_fixed : (c : Command) (t u : Task) → IsTaskOf c t → IsTaskOf c u → t ≡ u
-task_fixed (command.Classes o) (Classes push width) (Classes other wide) h k = (let e = h.2 ∙ sym k.2 in let f = h.3 ∙ sym k.3 in λ i. Classes (e i) (f i))
-task_fixed (command.Classes o) (Classes push width) Faces h k = absurd k
+task_fixed (command.Classes o) (Classes push stars width) (Classes other others wide) h k = (let d = h.1 ∙ sym k.1 in let e = h.2 ∙ sym k.2 in let f = h.3 ∙ sym k.3 in λ i. Classes (d i) (e i) (f i))
+task_fixed (command.Classes o) (Classes push stars width) Faces h k = absurd k
 task_fixed (command.Classes o) Faces u h k = absurd h
 task_fixed (command.Resume o) t u h k = absurd h
-task_fixed command.Faces (Classes push width) u h k = absurd h
-task_fixed command.Faces Faces (Classes push width) h k = absurd k
+task_fixed command.Faces (Classes push stars width) u h k = absurd h
+task_fixed command.Faces Faces (Classes push stars width) h k = absurd k
 task_fixed command.Faces Faces Faces h k = refl
 task_fixed (command.Demo n workers width) t u h k = absurd h
 
 is_built : (c : Command) (t : Task) → IsTaskOf c t → IsBuilt c
-is_built (command.Classes o) (Classes push width) h = (h.0, h.1)
+is_built (command.Classes o) (Classes push stars width) h = h.0
 is_built (command.Classes o) Faces h = absurd h
 is_built (command.Resume o) t h = absurd h
 is_built command.Faces t h = tt
@@ -80,11 +80,11 @@ is_built (command.Demo n workers width) t h = absurd h
 -- ---- within reach nothing stops a task
 
 not_too_wide : (task : Task) (g : Shape) (choice : List ℕ) (step : ℕ) (number : ℤ) → IsWithinReach task g → IsTooWide task choice step number g → ⊥
-not_too_wide (Classes push width) g choice step number r w = r.0 choice step number w.items w.wide
+not_too_wide (Classes push stars width) g choice step number r w = r.0 choice step number w.items w.wide
 not_too_wide Faces g choice step number r w = w
 
 not_too_many : (task : Task) (g : Shape) (face : ℕ) → IsWithinReach task g → HasTooMany task face g → ⊥
-not_too_many (Classes push width) g face r (key, m) =
+not_too_many (Classes push stars width) g face r (key, m) =
     let e = m.ends_at in
     let at : slice_index key face ≡ item_limit g = (let q : face ≡ length key - 1 = omega (arith, e) in ap (λ i. slice_index key i) q ∙ m.far.0) in
     r.1 face (subst (HasItem g face) at (m.far.1 face (omega (arith, e))))

@@ -1,15 +1,9 @@
 pub mod Answered
 pub mod Asked
 pub mod Completeness
-pub mod Crossing
-pub mod FaceTriangle
 pub mod InputsFixed
 pub mod NoRows
 pub mod NumberedLines
-pub mod OneItem
-pub mod OneTriangle
-pub mod OnlyClass
-pub mod TriangleFaces
 pub mod Heights
 pub mod Listed
 pub mod KeyValues
@@ -18,3 +12,10 @@ pub mod Settled
 pub mod Ending
 pub mod Turns
 pub mod Probed
+pub mod ClassBlocks
+pub mod NoFaces
+pub mod HeightsExtend
+pub mod Headline
+pub mod PartDecisions
+pub mod AllItems
+pub mod RestrictedItems

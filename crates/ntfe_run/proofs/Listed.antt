@@ -6,15 +6,15 @@ use Rattle.ntfe_model.specs.Lists.{IsListing, IsBelow}
 use Rattle.ntfe_model.specs.Shapes.{Shape}
 use Rattle.ntfe_model.specs.Choices.{IsChoice, IsExtendable}
 use Rattle.ntfe_model.specs.Keys.{IsAfter, IsClass, BeginsWith}
-use Rattle.ntfe_model.specs.RunText.{Form, Block, IsStarOf, IsBlockOf, AreBlocks}
+use Rattle.ntfe_model.specs.RunText.{Form, Block, IsBlockOf, AreBlocks}
 use Rattle.ntfe_model.proofs.Listings.{Contains-here, Contains-none, listing_append, listing_same}
 use Rattle.ntfe_model.proofs.Orders.{below_chain, three_ways}
 use Rattle.choice_board.specs.Places.{IsIn}
 use Rattle.choice_board.specs.States.{State, Holder, IsHolder, place_of, IsSound}
 use Rattle.choice_board.specs.Telling.{IsBlocked}
 use Rattle.farkas_check.proofs.Refuting.{blocked_refuted}
-use Rattle.ntfe_run.specs.Listed.{IsUpTo, AreBlocksTo}
-use Rattle.ntfe_run.proofs.Heights.{heights_fixed}
+use Rattle.ntfe_run.specs.Listed.{IsUpTo, AreBlocksTo, IsClassBlock}
+use Rattle.ntfe_run.proofs.ClassBlocks.{block_fixed, class_block}
 
 -- ---- before and after
 
@@ -42,41 +42,22 @@ blocked_not s sound choice (p, held, begins) e =
 
 -- ---- one more class
 
-module _ (s : State) (sound : IsSound s) (form : Form) (plain : form.stars ≡ false) where
-  -- two blocks of one choice are one
-  block_fixed : (a b : Block) → IsBlockOf s.geometry form None a → IsBlockOf s.geometry form None b → a.choice ≡ b.choice → a ≡ b
-  block_fixed a b p q e =
-      let P = λ (c : List ℕ). Rattle.ntfe_model.specs.Keys.AreHeightsOf s.geometry c a.heights in
-      let h = heights_fixed s.geometry b.choice a.heights b.heights (subst P e p.heights) q.heights in
-      let t = no_star a a.star p.star ∙ sym (no_star b b.star q.star) in
-      λ i. record { choice = e i; heights = h i; star = t i }
-    where
-      no_star : (c : Block) (star : Option (List (List ℕ))) → IsStarOf s.geometry form c star → star ≡ None
-      no_star c None k = refl
-      no_star c (Some xs) k = let d : false ≡ true = sym plain ∙ k.0 in cc
-
-  class_block : (choice : List ℕ) (w : List ℤ) → IsClass s.geometry choice w → IsBlockOf s.geometry form None (record { choice = choice; heights = w; star = None })
-  class_block choice w k = record {
-    extendable = record { items = k.0; heights = w; extends = k.2 };
-    after = tt;
-    heights = k.3;
-    star = plain;
-  }
-
+module _ (s : State) (sound : IsSound s) (form : Form) where
   -- the class that is handed out is the next block
-  pub next_block : (bs : List Block) (choice : List ℕ) (w : List ℤ) → AreBlocksTo s.geometry form s.last bs → IsClass s.geometry choice w → IsAfter s.last choice
+  pub next_block : (bs : List Block) (choice : List ℕ) (w : List ℤ) (new : Block) → IsClassBlock s.geometry form choice w new
+      → AreBlocksTo s.geometry form s.last bs → IsClass s.geometry choice w → IsAfter s.last choice
       → ((c : List ℕ) → IsChoice s.geometry c → IsAfter s.last c → IsBelow c choice → IsBlocked s c)
-      → AreBlocksTo s.geometry form (Some choice) (bs ++ record { choice = choice; heights = w; star = None } ∷ [])
-  next_block bs choice w listed k after between =
+      → AreBlocksTo s.geometry form (Some choice) (bs ++ new ∷ [])
+  next_block bs choice w new is listed k after between =
       listing_append (λ b c. IsBelow b.choice c.choice)
       (λ b. IsBlockOf s.geometry form None b × IsUpTo s.last b.choice) (λ b. b ≡ new) (λ b. IsBlockOf s.geometry form None b × IsUpTo (Some choice) b.choice) bs (new ∷ []) listed one
-      (λ x y p q. subst (λ (c : List ℕ). IsBelow x.choice c) (ap (λ (b : Block). b.choice) (sym q)) (up_to_below s.last x.choice choice p.1 after))
+      (λ x y p q. subst (λ (c : List ℕ). IsBelow x.choice c) (sym (ap (λ (b : Block). b.choice) q ∙ is.of)) (up_to_below s.last x.choice choice p.1 after))
       (λ x p. (p.0, inr (up_to_below s.last x.choice choice p.1 after)))
-      (λ x q. (subst (λ (b : Block). IsBlockOf s.geometry form None b) (sym q) (class_block choice w k), inl (ap (λ (b : Block). b.choice) q)))
+      (λ x q. (subst (λ (b : Block). IsBlockOf s.geometry form None b) (sym q) own, inl (ap (λ (b : Block). b.choice) q ∙ is.of)))
       split
     where
-      new : Block
-      new = record { choice = choice; heights = w; star = None }
+      own : IsBlockOf s.geometry form None new
+      own = class_block s.geometry form choice w new k is
 
       one : IsListing (λ b c. IsBelow b.choice c.choice) (λ b. b ≡ new) (new ∷ [])
       one = record {
@@ -86,7 +67,7 @@ module _ (s : State) (sound : IsSound s) (form : Form) (plain : form.stars ≡ f
       }
 
       split : (x : Block) → IsBlockOf s.geometry form None x × IsUpTo (Some choice) x.choice → (IsBlockOf s.geometry form None x × IsUpTo s.last x.choice) ⊎ (x ≡ new)
-      split x (p, inl e) = inr (block_fixed x new p (class_block choice w k) e)
+      split x (p, inl e) = inr (block_fixed s.geometry form x new p own (e ∙ sym is.of))
       split x (p, inr b) = ⊎_elim (λ u. inl (p, u)) (λ a. absurd (blocked_not s sound x.choice (between x.choice p.extendable.items a b) p.extendable)) (up_to_or_after s.last x.choice)
 
   -- ---- the end

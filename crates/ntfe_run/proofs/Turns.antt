@@ -19,12 +19,11 @@ use Rattle.choice_board.specs.declared.record.Found.{Found}
 use Rattle.choice_board.specs.declared.record.Found.TheVariants.{Class as FoundClass, Wide as FoundWide, Far as FoundFar}
 use Rattle.choice_board.specs.declared.outcome.Outcome.{Outcome}
 use Rattle.choice_board.specs.declared.outcome.Outcome.TheVariants.{Class, Wide, Far}
-use Rattle.ntfe_model.specs.declared.nogood.Push.{Push}
 use Rattle.class_text.specs.declared.form.TextForm.{TextForm}
 use Rattle.ntfe_run.specs.declared.listing.Halt.{Halt}
 use Rattle.ntfe_run.specs.declared.listing.Halt.TheVariants as halt
-use Rattle.ntfe_run.specs.PlainText.{IsPlainForm}
-use Rattle.ntfe_run.specs.Listed.{AreBlocksTo, IsUnderWay, IsLiveRecord, WritesOn, WritesAll, WritesPart, WritesBelow, HasHalted, FitsForm, HasTold, IsFewer, IsOver}
+use Rattle.ntfe_run.specs.Forms.{IsFormOf}
+use Rattle.ntfe_run.specs.Listed.{AreBlocksTo, IsClassBlock, IsUnderWay, IsLiveRecord, WritesOn, WritesAll, WritesPart, WritesBelow, HasHalted, FitsForm, HasTold, IsFewer, IsOver}
 use Rattle.choice_board.specs.Starts.{new_board}
 use Rattle.ntfe_run.proofs.Listed.{next_block, blocks_below, all_blocks, no_blocks}
 use Rattle.std.proofs.KnownBytes.{Appends-nil}
@@ -41,12 +40,9 @@ counted_more n k e = by (nat_lt n 9_223_372_036_854_775_808) refl
 
 -- ---- a class
 
-module _ (form : Form) (plain : form.stars ≡ false) (s t : State) (sound : IsSound s) (choice : List ℕ) (w : List ℤ) (h : IsHandedOut s t (Class choice w)) where
-  abbrev block : Block
-  block = record { choice = choice; heights = w; star = None }
-
+module _ (form : Form) (s t : State) (sound : IsSound s) (choice : List ℕ) (w : List ℤ) (h : IsHandedOut s t (Class choice w)) (block : Block) (is : IsClassBlock s.geometry form choice w block) where
   listed : (bs : List Block) → AreBlocksTo s.geometry form s.last bs → AreBlocksTo s.geometry form (Some choice) (bs ++ block ∷ [])
-  listed bs l = next_block s sound form plain bs choice w l h.0.is_true.0 h.0.above h.0.between
+  listed bs l = next_block s sound form bs choice w block is l h.0.is_true.0 h.0.above h.0.between
 
   one_text : flat_map block_text (block ∷ []) ≡ block_text block
   one_text = append-nil (block_text block)
@@ -70,6 +66,7 @@ module _ (form : Form) (plain : form.stars ≡ false) (s t : State) (sound : IsS
     took = subst (λ (text : List ℕ). AppendsPrefix a b text) (sym one_text) took;
   }
 
+module _ (s t : State) (choice : List ℕ) (w : List ℤ) (h : IsHandedOut s t (Class choice w)) where
   pub class_fewer : IsFewer s t
   class_fewer = record {
     open_keys = h.0.open_keys;
@@ -90,11 +87,11 @@ module _ (form : Form) (plain : form.stars ≡ false) (s t : State) (sound : IsS
 
 -- ---- an early end
 
-module _ (form : Form) (plain : form.stars ≡ false) (s t : State) (sound : IsSound s) (width : ℕ) (u : IsUnderWay s.geometry width s) where
+module _ (form : Form) (s t : State) (sound : IsSound s) (width : ℕ) (u : IsUnderWay s.geometry width s) where
   below : (key : List ℕ) (found : Found) → IsTaken s t key found → (a : Option (List ℕ)) → WritesBelow form s key a a
   below key found h a = record {
     news = [];
-    listed = λ bs l. subst (λ (xs : List Block). IsListing (λ y z. IsBelow y.choice z.choice) (λ y. IsBlockOf s.geometry form None y × IsBelow y.choice key) xs) (sym (append-nil bs)) (blocks_below s sound form plain bs key l h.above h.between);
+    listed = λ bs l. subst (λ (xs : List Block). IsListing (λ y z. IsBelow y.choice z.choice) (λ y. IsBlockOf s.geometry form None y × IsBelow y.choice key) xs) (sym (append-nil bs)) (blocks_below s sound form bs key l h.above h.between);
     took = Appends-nil a;
   }
 
@@ -167,30 +164,41 @@ over s sound waits e none = record { no_key = none; no_record = empty s.recorded
 
 -- ---- what is handed out is written
 
-pub fits : (push : Push) (form : TextForm) (s t : State) (o : Outcome) → IsPlainForm push s.geometry form → IsHandedOut s t o → FitsForm form o
-fits push form s t (Class choice w) p h = (h.0.is_true.0.0.faces ∙ sym p.faces, h.0.is_true.0.2.heights ∙ sym p.points)
-fits push form s t (Wide choice step number) p h = tt
-fits push form s t (Far face) p h = tt
+-- nothing was written
+pub nothing_part : (form : Form) (s : State) (a : Option (List ℕ)) → WritesPart form s a a
+nothing_part form s a = record { news = []; last = s.last; listed = λ bs h. subst (λ (x : List Block). AreBlocksTo s.geometry form s.last x) (sym (append-nil bs)) h; took = prefix_none a [] }
 
-module _ (form : Form) (plain : form.stars ≡ false) (s t : State) (sound : IsSound s) (a b : Option (List ℕ)) (f g : ℕ) where
+pub fits : (form : TextForm) (s t : State) (o : Outcome) → IsFormOf s.geometry form → IsHandedOut s t o → FitsForm form o
+fits form s t (Class choice w) p h = (h.0.is_true.0.0.faces ∙ sym p.faces, h.0.is_true.0.2.heights ∙ sym p.points)
+fits form s t (Wide choice step number) p h = tt
+fits form s t (Far face) p h = tt
+
+-- what is handed out leaves the geometry
+pub handed_on : (s t : State) (o : Outcome) → IsHandedOut s t o → t.geometry ≡ s.geometry
+handed_on s t (Class choice w) h = h.0.geometry
+handed_on s t (Wide choice step number) h = h.0.geometry
+handed_on s t (Far face) h = h.2.geometry
+
+module _ (form : Form) (s t : State) (sound : IsSound s) (a b : Option (List ℕ)) (f g : ℕ) where
   -- all was written, so it was a class
-  pub told_on : (o : Outcome) (u : Unit {0}) → HasTold o a b f g (Ok u) → IsHandedOut s t o → WritesOn form s t a b × IsFewer s t × (length t.recorded < length s.recorded)
-  told_on (Class choice w) u k h = (class_on form plain s t sound choice w h a b k, class_fewer form plain s t sound choice w h, class_shorter form plain s t sound choice w h)
+  pub told_on : (o : Outcome) (u : Unit {0}) → HasTold s.geometry form o a b f g (Ok u) → IsHandedOut s t o → WritesOn form s t a b × IsFewer s t × (length t.recorded < length s.recorded)
+  told_on (Class choice w) u (block, is, took) h = (class_on form s t sound choice w h block is a b took, class_fewer s t choice w h, class_shorter s t choice w h)
   told_on (Wide choice step number) u k h = absurd k
   told_on (Far face) u k h = absurd k
 
   -- the listing stops here
-  pub told_halt : (o : Outcome) (e : Halt) → HasTold o a b f g (Err e) → IsHandedOut s t o → (width : ℕ) → IsUnderWay s.geometry width s → HasHalted form width s a b f g e
-  told_halt (Class choice w) halt.Memory k h width u = class_part form plain s t sound choice w h a b k
-  told_halt (Class choice w) halt.Write k h width u = (class_part form plain s t sound choice w h a b k.0, k.1)
+  pub told_halt : (o : Outcome) (e : Halt) → HasTold s.geometry form o a b f g (Err e) → IsHandedOut s t o → (width : ℕ) → IsUnderWay s.geometry width s → HasHalted form width s a b f g e
+  told_halt (Class choice w) halt.Memory (inl same) h width u = subst (λ (c : Option (List ℕ)). WritesPart form s a c) (sym same) (nothing_part form s a)
+  told_halt (Class choice w) halt.Memory (inr (block, is, took)) h width u = class_part form s t sound choice w h block is a b took
+  told_halt (Class choice w) halt.Write ((block, is, took), rose) h width u = (class_part form s t sound choice w h block is a b took, rose)
   told_halt (Class choice w) (halt.Overflow other step number) k h width u = absurd k
   told_halt (Class choice w) (halt.Limit face) k h width u = absurd k
   told_halt (Wide choice step number) e k h width u =
       let P : Halt × Option (List ℕ) → Type 0 = λ x. HasHalted form width s a x.1 f g x.0 in
-      subst P (λ i. (sym k.0 i, sym k.1 i)) (wide_below form plain s t sound width u choice step number h a)
+      subst P (λ i. (sym k.0 i, sym k.1 i)) (wide_below form s t sound width u choice step number h a)
   told_halt (Far face) e k h width u =
       let P : Halt × Option (List ℕ) → Type 0 = λ x. HasHalted form width s a x.1 f g x.0 in
-      subst P (λ i. (sym k.0 i, sym k.1 i)) (far_below form plain s t sound width u face h a)
+      subst P (λ i. (sym k.0 i, sym k.1 i)) (far_below form s t sound width u face h a)
 
 -- ---- a later halt
 
@@ -207,16 +215,16 @@ halt_then form width s t a b c e f g (halt.Limit face) w l k =
 
 -- a listing that stops for want of memory
 pub halt_here : (form : Form) (width : ℕ) (s : State) (a : Option (List ℕ)) (e : ℕ) → HasHalted form width s a a e e halt.Memory
-halt_here form width s a e = record { news = []; last = s.last; listed = λ bs h. subst (λ (x : List Block). AreBlocksTo s.geometry form s.last x) (sym (append-nil bs)) h; took = prefix_none a [] }
+halt_here form width s a e = nothing_part form s a
 
 -- ---- from a new board to the end
 
-pub all_written : (g : Shape) (form : Form) → form.stars ≡ false → 0 < length g.faces → (s t : State) → s ≡ new_board g None → IsSound t → (a b : Option (List ℕ)) → WritesOn form s t a b → IsOver t → (count : ℕ) → count ≡ t.totals.written
+pub all_written : (g : Shape) (form : Form) → 0 < length g.faces → (s t : State) → s ≡ new_board g None → IsSound t → (a b : Option (List ℕ)) → WritesOn form s t a b → IsOver t → (count : ℕ) → count ≡ t.totals.written
     → WritesAll g form a b count
-all_written g form plain some s t fresh sound a b w o count e = record {
+all_written g form some s t fresh sound a b w o count e = record {
   blocks = w.news;
   are = subst (λ (x : Shape). AreBlocks x form None w.news) of
-      (all_blocks t sound form plain w.news (subst (λ (x : Shape). AreBlocksTo x form t.last w.news) (sym w.on.geometry) (w.on.listed [] first)) (subst (λ (x : Shape). 0 < length x.faces) (sym of) some) o.no_key o.no_record o.running);
+      (all_blocks t sound form w.news (subst (λ (x : Shape). AreBlocksTo x form t.last w.news) (sym w.on.geometry) (w.on.listed [] first)) (subst (λ (x : Shape). 0 < length x.faces) (sym of) some) o.no_key o.no_record o.running);
   took = w.took;
   counted = e ∙ w.on.count 0 (ap (λ x. x.totals.written) fresh) ∙ ap (λ n. min (2 ^ 63) n) (let q : 0 + length w.news ≡ length w.news = omega arith in q);
 }

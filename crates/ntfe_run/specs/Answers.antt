@@ -14,7 +14,7 @@ use Rattle.ntfe_words.specs.declared.command.Command.{Command}
 use Rattle.ntfe_words.specs.declared.command.Command.TheVariants as command
 use Rattle.ntfe_words.specs.declared.command.Options.{Options}
 use Rattle.ntfe_run.specs.Inputs.{IsInputOf, IsRefusalOf}
-use Rattle.ntfe_run.specs.PlainText.{plain_form}
+use Rattle.ntfe_run.specs.Forms.{form_with}
 use Rattle.ntfe_run.specs.Listed.{IsBeginning}
 use Rattle.ntfe_run.specs.Tasks.{IsBuilt, IsTaskOf}
 use Rattle.ntfe_run.specs.declared.task.Task.{Task}
@@ -82,24 +82,24 @@ pub record TakesPart (P : Shape → List ℕ → Type 0) (left left' taken taken
 
 -- the text is what the task asks for: of classes, that of a run, which lists exactly the extendable choices
 abbrev pub IsTaskText : Task → Shape → List ℕ → Type 0
-IsTaskText (Classes push width) g text = IsRunText g (plain_form push) nothing_kept None text
+IsTaskText (Classes push stars width) g text = IsRunText g (form_with push stars) nothing_kept None text
 IsTaskText Faces g text = text ≡ faces_text g
 
 -- the text is what the task asks for, or a beginning of it
 abbrev pub IsTaskStart : Task → Shape → List ℕ → Type 0
-IsTaskStart (Classes push width) g text = IsRunText g (plain_form push) nothing_kept None text ⊎ IsBeginning g (plain_form push) text
+IsTaskStart (Classes push stars width) g text = IsRunText g (form_with push stars) nothing_kept None text ⊎ IsBeginning g (form_with push stars) text
 IsTaskStart Faces g text = text ≡ faces_text g
 
 -- the text ends below this choice, on which the solver's numbers are too wide
 abbrev pub IsWideEnd : Task → List ℕ → ℕ → ℤ → Shape → List ℕ → Type 0
-IsWideEnd (Classes push width) choice step number g text =
-    MayOverflow g None width choice step number × IsStoppedText g (plain_form push) nothing_kept None choice text
+IsWideEnd (Classes push stars width) choice step number g text =
+    MayOverflow g None width choice step number × IsStoppedText g (form_with push stars) nothing_kept None choice text
 IsWideEnd Faces choice step number g text = ⊥
 
 -- the text ends below a key that comes to the item limit of this two-face
 abbrev pub IsFarEnd : Task → ℕ → Shape → List ℕ → Type 0
-IsFarEnd (Classes push width) face g text =
-    (key : List ℕ) × MayLimit g None width face key × IsStoppedText g (plain_form push) nothing_kept None key text
+IsFarEnd (Classes push stars width) face g text =
+    (key : List ℕ) × MayLimit g None width face key × IsStoppedText g (form_with push stars) nothing_kept None key text
 IsFarEnd Faces face g text = ⊥
 
 -- how the answer to an input ends, and what was written
@@ -113,12 +113,12 @@ IsAnswer task g taken taken' faults faults' status = ⊥
 
 -- the choice may be come to, and the solver's numbers are too wide on it
 abbrev pub IsTooWide : Task → List ℕ → ℕ → ℤ → Shape → Type 0
-IsTooWide (Classes push width) choice step number g = MayOverflow g None width choice step number
+IsTooWide (Classes push stars width) choice step number g = MayOverflow g None width choice step number
 IsTooWide Faces choice step number g = ⊥
 
 -- a key may be come to that ends at this two-face with the item limit, and its items exist
 abbrev pub HasTooMany : Task → ℕ → Shape → Type 0
-HasTooMany (Classes push width) face g = (key : List ℕ) × MayLimit g None width face key
+HasTooMany (Classes push stars width) face g = (key : List ℕ) × MayLimit g None width face key
 HasTooMany Faces face g = ⊥
 
 -- when each status ends a task: the source's bytes and faults before and after, and the sink's faults
@@ -204,7 +204,7 @@ HasRunText words left left' taken taken' status = Keeps taken taken'
 
 -- nothing stops the task on this input: of classes, that the solver's numbers are too wide on no choice, and that no two-face comes to the item limit
 abbrev pub IsWithinReach : Task → Shape → Type 0
-IsWithinReach (Classes push width) g =
+IsWithinReach (Classes push stars width) g =
     ((choice : List ℕ) (step : ℕ) (number : ℤ) → IsChoice g choice → ¬ (IsWideAt g width choice step number)) × ((face : ℕ) → ¬ (HasItem g face (item_limit g)))
 IsWithinReach Faces g = ⊤
 

@@ -3,8 +3,9 @@ pub mod Codes
 pub mod Inputs
 pub mod Messages
 pub mod Parts
-pub mod PlainText
+pub mod Forms
 pub mod Tasks
 pub mod Listed
 pub mod Halts
 pub mod Probing
+pub mod Headline

@@ -1,11 +1,11 @@
 -- How far a listing has come.
-use Rattle.std.specs.Prelude.{true, false, ◌≡◌, ◌<◌, Bool, Contains, Result, Ok, Err, ℕ, zero, suc, ◌+◌, ◌*◌, ◌^◌, ◌⊎◌, min, false, List, [], ◌∷◌, ◌++◌, length, flat_map, Option, None, Some, ⊤, All}
+use Rattle.std.specs.Prelude.{true, false, ◌≡◌, ◌<◌, Bool, ℤ, Contains, Result, Ok, Err, ℕ, zero, suc, ◌+◌, ◌*◌, ◌^◌, ◌⊎◌, min, false, List, [], ◌∷◌, ◌++◌, length, flat_map, Option, None, Some, ⊤, All}
 use Rattle.std.specs.Io.KnownBytes.{Appends}
 use Rattle.io_edge.specs.Causes.{Rose, AppendsPrefix}
 use Rattle.ntfe_model.specs.Lists.{IsListing, IsBelow}
 use Rattle.ntfe_model.specs.Shapes.{Shape}
 use Rattle.ntfe_model.specs.Keys.{AllItemsExist, IsRefutedAt, IsLive, IsWideAt, MayOverflow, MayLimit}
-use Rattle.ntfe_model.specs.RunText.{Form, Block, IsBlockOf, AreBlocks, head_text, block_text}
+use Rattle.ntfe_model.specs.RunText.{Form, Block, IsStarOf, IsBlockOf, AreBlocks, head_text, block_text}
 use Rattle.class_text.specs.declared.form.TextForm.{TextForm}
 use Rattle.choice_board.specs.States.{State}
 use Rattle.choice_board.specs.declared.outcome.Outcome.{Outcome}
@@ -129,15 +129,37 @@ abbrev pub FitsForm : TextForm → Outcome → Type 0
 FitsForm form (outcome.Class choice w) = (length choice ≡ form.faces) × (length w ≡ form.points)
 FitsForm form o = ⊤
 
--- of a class the block was written, or a prefix of it where that failed; another outcome ends the listing, and nothing was written
-abbrev pub HasTold : Outcome → Option (List ℕ) → Option (List ℕ) → ℕ → ℕ → Result (Unit {0}) Halt → Type 0
-HasTold (outcome.Class choice w) taken taken' sink sink' (Ok done) = Appends taken taken' (block_text (record { choice = choice; heights = w; star = None }))
-HasTold (outcome.Class choice w) taken taken' sink sink' (Err halt.Memory) = AppendsPrefix taken taken' (block_text (record { choice = choice; heights = w; star = None }))
-HasTold (outcome.Class choice w) taken taken' sink sink' (Err halt.Write) =
-    AppendsPrefix taken taken' (block_text (record { choice = choice; heights = w; star = None })) × Rose sink sink'
-HasTold (outcome.Wide choice step number) taken taken' sink sink' (Err h) = (h ≡ halt.Overflow choice step number) × (taken' ≡ taken)
-HasTold (outcome.Far face) taken taken' sink sink' (Err h) = (h ≡ halt.Limit face) × (taken' ≡ taken)
-HasTold o taken taken' sink sink' result = ⊥
+-- the block of a class, with its star where stars are written
+pub record IsClassBlock (g : Shape) (form : Form) (choice : List ℕ) (w : List ℤ) (b : Block) : Type 0 where
+  pub of : b.choice ≡ choice
+  pub lifted : b.heights ≡ w
+  pub starred : IsStarOf g form b b.star
+
+-- the star of the heights, where stars are written
+abbrev pub IsStarAt : Shape → Form → List ℤ → Option (List (List ℕ)) → Type 0
+IsStarAt g form w star = IsStarOf g form (record { choice = []; heights = w; star = star }) star
+
+-- the class's block was taken
+abbrev pub TakesBlock : Shape → Form → List ℕ → List ℤ → Option (List ℕ) → Option (List ℕ) → Type 0
+TakesBlock g form choice w taken taken' = (b : Block) × IsClassBlock g form choice w b × Appends taken taken' (block_text b)
+
+-- a prefix of the class's block was taken
+abbrev pub TakesBlockPart : Shape → Form → List ℕ → List ℤ → Option (List ℕ) → Option (List ℕ) → Type 0
+TakesBlockPart g form choice w taken taken' = (b : Block) × IsClassBlock g form choice w b × AppendsPrefix taken taken' (block_text b)
+
+-- the block of a class was written, or a prefix of it where that failed; where memory ran out, it may not have been begun
+abbrev pub HasWrittenBlock : Shape → Form → List ℕ → List ℤ → Option (List ℕ) → Option (List ℕ) → ℕ → ℕ → Result (Unit {0}) Halt → Type 0
+HasWrittenBlock g form choice w taken taken' sink sink' (Ok done) = TakesBlock g form choice w taken taken'
+HasWrittenBlock g form choice w taken taken' sink sink' (Err halt.Memory) = (taken' ≡ taken) ⊎ TakesBlockPart g form choice w taken taken'
+HasWrittenBlock g form choice w taken taken' sink sink' (Err halt.Write) = TakesBlockPart g form choice w taken taken' × Rose sink sink'
+HasWrittenBlock g form choice w taken taken' sink sink' (Err h) = ⊥
+
+-- a class was written; another outcome ends the listing, and nothing was written
+abbrev pub HasTold : Shape → Form → Outcome → Option (List ℕ) → Option (List ℕ) → ℕ → ℕ → Result (Unit {0}) Halt → Type 0
+HasTold g form (outcome.Class choice w) taken taken' sink sink' result = HasWrittenBlock g form choice w taken taken' sink sink' result
+HasTold g form (outcome.Wide choice step number) taken taken' sink sink' (Err h) = (h ≡ halt.Overflow choice step number) × (taken' ≡ taken)
+HasTold g form (outcome.Far face) taken taken' sink sink' (Err h) = (h ≡ halt.Limit face) × (taken' ≡ taken)
+HasTold g form o taken taken' sink sink' result = ⊥
 
 -- ---- the board while its outcomes are written, and while its keys are settled
 

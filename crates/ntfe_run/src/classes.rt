@@ -1,35 +1,38 @@
 //! The text of the classes.
-ghost use Rattle.std.specs.Prelude.{◌≡◌, ◌<◌, ◌≤◌, ◌↔◌, IsTrue, IfOk, pos, false, length, replicate, ◌++◌};
+ghost use Rattle.std.specs.Prelude.{◌≡◌, ◌≤◌, ℕ, IfOk, IfErr, pos, length, replicate};
 ghost use Rattle.io_edge.specs.Lines.{WritesText};
+ghost use Rattle.choice_board.specs.Starts.{new_board};
 ghost use Rattle.class_text.specs.Forms.{form_of};
-ghost use Rattle.ntfe_model.specs.Shapes.{IsShape};
-ghost use Rattle.ntfe_model.specs.RunText.{head_text, block_text, end_line};
 ghost use Rattle.ntfe_run.specs.Answers.{IsAnswer};
-ghost use Rattle.ntfe_run.specs.Halts.{status_of_listing, IsHaltOf};
+ghost use Rattle.ntfe_run.specs.Forms.{IsFormOf};
+ghost use Rattle.ntfe_run.specs.Halts.{status_of_listing};
+ghost use Rattle.ntfe_run.specs.Listed.{WritesAll, HasHalted};
 ghost use Rattle.ntfe_run.specs.declared.task.Task.{Task};
-ghost use Rattle.ntfe_run.specs.PlainText.{AreTriangles, IsPlainForm, plain_block, plain_text};
 
-use crate::listing::{Halt, write_blocks};
-use class_text::{TextForm, write_class, write_end, write_head};
-use io_edge::{LineFault, Sink};
+use crate::listing::{Halt, halted, write_block, write_blocks};
+use class_text::{TextForm, write_end, write_head};
+use io_edge::Sink;
 use ntfe_model::{Choice, Geometry, Heights, List, Push};
 use std::alloc::{AllocError, Global};
 
-/// Whether each two-face has three points.
-pub fn are_triangles(geometry: &Geometry) -> bool
-    ensures { IsTrue result ↔ AreTriangles geometry.now }
+/// What the text depends on beside the classes.
+fn text_form(
+    alloc: Global,
+    push: Push,
+    stars: bool,
+    geometry: &Geometry,
+) -> Result<TextForm, AllocError>
+    ensures form { IfOk result (λ f. IsFormOf geometry.now f × (f.push ≡ push) × (f.stars ≡ stars)) }
 {
-    geometry
-        .faces()
-        .iter()
-        .all(|face| face.points.as_slice().len() == 3)
-}
-
-/// So many items 0.
-fn zero_choice(alloc: Global, faces: usize) -> Result<Choice, AllocError>
-    ensures { IfOk result (λ c. c ≡ replicate faces 0) }
-{
-    Ok(Choice(List::from_vec(vec![in alloc; 0u32; faces]?)))
+    let pair = geometry.pair().try_clone(alloc)?;
+    Ok(TextForm {
+        pair,
+        push,
+        stars,
+        points: geometry.points().len() as u32,
+        faces: geometry.faces().len() as u32,
+        kept: 0,
+    })
 }
 
 /// So many heights 0.
@@ -39,56 +42,46 @@ fn zero_heights(alloc: Global, points: usize) -> Result<Heights, AllocError>
     Ok(Heights(List::from_vec(vec![in alloc; 0i64; points]?)))
 }
 
-/// What the text depends on beside the classes.
-fn text_form(alloc: Global, push: Push, geometry: &Geometry) -> Result<TextForm, AllocError>
-    ensures form { IfOk result (λ f. IsPlainForm push geometry.now f) }
-    ensures shape { IsShape geometry.now }
+/// Writes the block of the one class of a pair without two-faces, and answers that it is one.
+fn write_only_block<K: Sink>(
+    alloc: Global,
+    form: &TextForm,
+    geometry: &Geometry,
+    out: &mut K,
+) -> Result<u64, Halt>
+    requires form { IsFormOf geometry.now form.now }
+    requires none { length geometry.now.faces ≡ 0 }
+    ensures ok { IfOk result (WritesAll geometry.now (form_of form.now) (K.taken out.old) (K.taken out.new)) }
+    ensures err { IfErr result (λ h. (width : ℕ) → HasHalted (form_of form.now) width (new_board geometry.now None) (K.taken out.old) (K.taken out.new) (K.faults out.old) (K.faults out.new) h) }
+    ensures later { K.faults out.old ≤ K.faults out.new }
 {
-    let pair = geometry.pair().try_clone(alloc)?;
-    Ok(TextForm {
-        pair,
-        push,
-        stars: false,
-        points: geometry.points().len() as u32,
-        faces: geometry.faces().len() as u32,
-        kept: 0,
-    })
-}
-
-/// Writes the block of the one class.
-fn write_block<K: Sink>(alloc: Global, form: &TextForm, out: &mut K) -> Result<(), LineFault>
-    requires { form.now.stars ≡ false }
-    ensures { WritesText (K.taken out.old) (K.taken out.new) (K.faults out.old) (K.faults out.new) result (block_text (plain_block form.now.faces form.now.points)) }
-{
-    let Ok(choice) = zero_choice(alloc, form.faces as usize) else {
-        return Err(LineFault::Memory);
-    };
+    let choice = Choice(List::from_vec(Vec::new(alloc)));
     let Ok(heights) = zero_heights(alloc, form.points as usize) else {
-        return Err(LineFault::Memory);
+        return Err(Halt::Memory);
     };
-    write_class(alloc, form, &choice, &heights, None, out)
+    write_block(alloc, form, geometry, &choice, &heights, out)?;
+    Ok(1)
 }
 
-/// Writes the whole text.
-fn write_text<K: Sink>(alloc: Global, form: &TextForm, out: &mut K) -> Result<(), LineFault>
-    requires { form.now.stars ≡ false }
-    ensures { WritesText (K.taken out.old) (K.taken out.new) (K.faults out.old) (K.faults out.new) result
-        (head_text form.now.pair (form_of form.now) ++ (block_text (plain_block form.now.faces form.now.points) ++ end_line 1)) }
+/// Writes the blocks of all classes, and answers how many there are, up to 2^63.
+fn write_all_blocks<K: Sink>(
+    alloc: Global,
+    form: &TextForm,
+    width: u8,
+    geometry: &Geometry,
+    out: &mut K,
+) -> Result<u64, Halt>
+    requires form { IsFormOf geometry.now form.now }
+    requires low { 1 ≤ width }
+    requires high { width ≤ 62 }
+    ensures ok { IfOk result (WritesAll geometry.now (form_of form.now) (K.taken out.old) (K.taken out.new)) }
+    ensures err { IfErr result (HasHalted (form_of form.now) width (new_board geometry.now None) (K.taken out.old) (K.taken out.new) (K.faults out.old) (K.faults out.new)) }
+    ensures later { K.faults out.old ≤ K.faults out.new }
 {
-    write_head(alloc, form, out)?;
-    write_block(alloc, form, out)?;
-    write_end(alloc, false, 1, out)
-}
-
-/// The end of a listing that ends with the writing of this text.
-fn halted(written: Result<(), LineFault>) -> Result<(), Halt>
-    ensures { IsHaltOf written result }
-{
-    match written {
-        Ok(()) => Ok(()),
-        Err(LineFault::Write) => Err(Halt::Write),
-        Err(LineFault::Memory) => Err(Halt::Memory),
+    if geometry.faces().is_empty() {
+        return write_only_block(alloc, form, geometry, out);
     }
+    write_blocks(alloc, form, width, geometry, out)
 }
 
 /// Writes the head, the blocks and the last line.
@@ -99,35 +92,31 @@ fn write_listing<K: Sink>(
     geometry: &Geometry,
     out: &mut K,
 ) -> Result<(), Halt>
-    requires plain { IsPlainForm form.now.push geometry.now form.now }
+    requires form { IsFormOf geometry.now form.now }
     requires low { 1 ≤ width }
     requires high { width ≤ 62 }
-    requires some { 0 < length geometry.now.faces }
-    ensures { IsAnswer (Task.Classes form.now.push width) geometry.now (K.taken out.old) (K.taken out.new) (K.faults out.old) (K.faults out.new) (status_of_listing result) }
+    ensures { IsAnswer (Task.Classes form.now.push form.now.stars width) geometry.now (K.taken out.old) (K.taken out.new) (K.faults out.old) (K.faults out.new) (status_of_listing result) }
 {
     halted(write_head(alloc, form, out))?;
-    let count = write_blocks(alloc, form, width, geometry, out)?;
+    let count = write_all_blocks(alloc, form, width, geometry, out)?;
     halted(write_end(alloc, false, count, out))
 }
 
-/// Writes the text of the classes, with solver numbers below 2^width in size. Where each two-face has
-/// three points there is one class, with items 0 and heights 0.
+/// Writes the text of the classes, with their stars or without, with solver numbers below 2^width in size.
 pub fn write_classes<K: Sink>(
     alloc: Global,
     push: Push,
+    stars: bool,
     width: u8,
     geometry: &Geometry,
     out: &mut K,
 ) -> Result<(), Halt>
     requires low { 1 ≤ width }
     requires high { width ≤ 62 }
-    ensures { IsAnswer (Task.Classes push width) geometry.now (K.taken out.old) (K.taken out.new) (K.faults out.old) (K.faults out.new) (status_of_listing result) }
+    ensures { IsAnswer (Task.Classes push stars width) geometry.now (K.taken out.old) (K.taken out.new) (K.faults out.old) (K.faults out.new) (status_of_listing result) }
 {
-    let Ok(form) = text_form(alloc, push, geometry) else {
+    let Ok(form) = text_form(alloc, push, stars, geometry) else {
         return Err(Halt::Memory);
     };
-    if are_triangles(geometry) {
-        return halted(write_text(alloc, &form, out));
-    }
     write_listing(alloc, &form, width, geometry, out)
 }

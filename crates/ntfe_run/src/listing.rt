@@ -1,17 +1,20 @@
 //! The listing of the classes: the least open key is probed and settled, and what the board hands out is written at once.
-ghost use Rattle.std.specs.Prelude.{◌≡◌, ◌<◌, ◌≤◌, ℕ, false, None, IfOk, IfErr, OnOk, length};
+ghost use Rattle.std.specs.Prelude.{◌≡◌, ◌<◌, ◌≤◌, ℕ, None, IfOk, IfErr, OnOk, length};
 ghost use Rattle.io_edge.specs.Lines.{WritesText};
 ghost use Rattle.choice_board.specs.States.{IsSound};
 ghost use Rattle.choice_board.specs.Starts.{new_board};
 ghost use Rattle.choice_board.specs.Telling.{IsWaiting};
-ghost use Rattle.ntfe_run.specs.PlainText.{IsPlainForm, plain_form};
-ghost use Rattle.ntfe_run.specs.Listed.{IsUnderWay, WritesOn, WritesAll, HasHalted, FitsForm, HasTold, IsFewer, HasSettledLeast, IsOver};
+ghost use Rattle.class_text.specs.Forms.{form_of};
+ghost use Rattle.ntfe_run.specs.Forms.{IsFormOf};
+ghost use Rattle.ntfe_run.specs.Halts.{IsHaltOf};
+ghost use Rattle.ntfe_run.specs.Listed.{IsUnderWay, WritesOn, WritesAll, HasHalted, FitsForm, HasWrittenBlock, HasTold, IsFewer, HasSettledLeast, IsOver};
 
 use crate::probing::Prober;
+use crate::stars::star_of;
 use choice_board::{Board, Outcome};
 use class_text::{TextForm, write_class};
 use io_edge::{LineFault, Sink};
-use ntfe_model::{Choice, Geometry};
+use ntfe_model::{Choice, Geometry, Heights};
 use std::alloc::{AllocError, Global};
 
 /// Why a listing stops before its end.
@@ -33,20 +36,54 @@ pub enum Halt {
     },
 }
 
+/// The end of a listing that ends with the writing of this text.
+pub fn halted(written: Result<(), LineFault>) -> Result<(), Halt>
+    ensures { IsHaltOf written result }
+{
+    match written {
+        Ok(()) => Ok(()),
+        Err(LineFault::Write) => Err(Halt::Write),
+        Err(LineFault::Memory) => Err(Halt::Memory),
+    }
+}
+
+/// Writes the block of a class, with its star where stars are written. The star is made before the block is begun.
+pub fn write_block<K: Sink>(
+    alloc: Global,
+    form: &TextForm,
+    geometry: &Geometry,
+    choice: &Choice,
+    heights: &Heights,
+    out: &mut K,
+) -> Result<(), Halt>
+    requires form { IsFormOf geometry.now form.now }
+    requires faces { length choice.now ≡ form.now.faces }
+    requires points { length heights.now ≡ form.now.points }
+    ensures written { HasWrittenBlock geometry.now (form_of form.now) choice.now heights.now (K.taken out.old) (K.taken out.new) (K.faults out.old) (K.faults out.new) result }
+    ensures later { K.faults out.old ≤ K.faults out.new }
+{
+    let Ok(star) = star_of(alloc, form, geometry, heights) else {
+        return Err(Halt::Memory);
+    };
+    halted(write_class(alloc, form, choice, heights, star.as_ref(), out))
+}
+
 /// Writes the block of a class; an outcome of another kind ends the listing.
-fn tell<K: Sink>(alloc: Global, form: &TextForm, outcome: Outcome, out: &mut K) -> Result<(), Halt>
-    requires plain { form.now.stars ≡ false }
+fn tell<K: Sink>(
+    alloc: Global,
+    form: &TextForm,
+    geometry: &Geometry,
+    outcome: Outcome,
+    out: &mut K,
+) -> Result<(), Halt>
+    requires form { IsFormOf geometry.now form.now }
     requires fits { FitsForm form.now outcome }
-    ensures told { HasTold outcome (K.taken out.old) (K.taken out.new) (K.faults out.old) (K.faults out.new) result }
+    ensures told { HasTold geometry.now (form_of form.now) outcome (K.taken out.old) (K.taken out.new) (K.faults out.old) (K.faults out.new) result }
     ensures later { K.faults out.old ≤ K.faults out.new }
 {
     match outcome {
         Outcome::Class(choice, heights) => {
-            match write_class(alloc, form, &choice, &heights, None, out) {
-                Ok(()) => Ok(()),
-                Err(LineFault::Write) => Err(Halt::Write),
-                Err(LineFault::Memory) => Err(Halt::Memory),
-            }
+            write_block(alloc, form, geometry, &choice, &heights, out)
         }
         Outcome::Wide {
             choice,
@@ -68,18 +105,18 @@ fn write_ready<K: Sink>(
     board: &mut Board,
     out: &mut K,
 ) -> Result<(), Halt>
-    requires plain { IsPlainForm form.now.push board.old.geometry form.now }
+    requires form { IsFormOf board.old.geometry form.now }
     requires sound { IsSound board.old }
     requires running { board.old.stop ≡ None }
-    ensures ok { OnOk result (WritesOn (plain_form form.now.push) board.old board.new (K.taken out.old) (K.taken out.new)) }
+    ensures ok { OnOk result (WritesOn (form_of form.now) board.old board.new (K.taken out.old) (K.taken out.new)) }
     ensures fewer { OnOk result (IsFewer board.old board.new) }
     ensures waiting { OnOk result (IsWaiting board.new) }
-    ensures err { IfErr result (λ h. (width : ℕ) → IsUnderWay board.old.geometry width board.old → HasHalted (plain_form form.now.push) width board.old (K.taken out.old) (K.taken out.new) (K.faults out.old) (K.faults out.new) h) }
+    ensures err { IfErr result (λ h. (width : ℕ) → IsUnderWay board.old.geometry width board.old → HasHalted (form_of form.now) width board.old (K.taken out.old) (K.taken out.new) (K.faults out.old) (K.faults out.new) h) }
     ensures sound { IsSound board.new }
     ensures later { K.faults out.old ≤ K.faults out.new }
 {
     while let Some(outcome) = board.ready() {
-        tell(alloc, form, outcome, out)?;
+        tell(alloc, form, board.geometry(), outcome, out)?;
     }
     Ok(())
 }
@@ -112,12 +149,12 @@ fn list_all<K: Sink>(
     board: &mut Board,
     out: &mut K,
 ) -> Result<(), Halt>
-    requires plain { IsPlainForm form.now.push board.old.geometry form.now }
+    requires form { IsFormOf board.old.geometry form.now }
     requires sound { IsSound board.old }
     requires under_way { IsUnderWay prober.old.geometry prober.old.width board.old }
-    ensures ok { OnOk result (WritesOn (plain_form form.now.push) board.old board.new (K.taken out.old) (K.taken out.new)) }
+    ensures ok { OnOk result (WritesOn (form_of form.now) board.old board.new (K.taken out.old) (K.taken out.new)) }
     ensures over { OnOk result (IsOver board.new) }
-    ensures err { IfErr result (HasHalted (plain_form form.now.push) prober.old.width board.old (K.taken out.old) (K.taken out.new) (K.faults out.old) (K.faults out.new)) }
+    ensures err { IfErr result (HasHalted (form_of form.now) prober.old.width board.old (K.taken out.old) (K.taken out.new) (K.faults out.old) (K.faults out.new)) }
     ensures sound { IsSound board.new }
     ensures later { K.faults out.old ≤ K.faults out.new }
 {
@@ -139,12 +176,12 @@ pub fn write_blocks<K: Sink>(
     geometry: &Geometry,
     out: &mut K,
 ) -> Result<u64, Halt>
-    requires plain { IsPlainForm form.now.push geometry.now form.now }
+    requires form { IsFormOf geometry.now form.now }
     requires low { 1 ≤ width }
     requires high { width ≤ 62 }
     requires some { 0 < length geometry.now.faces }
-    ensures ok { IfOk result (WritesAll geometry.now (plain_form form.now.push) (K.taken out.old) (K.taken out.new)) }
-    ensures err { IfErr result (HasHalted (plain_form form.now.push) width (new_board geometry.now None) (K.taken out.old) (K.taken out.new) (K.faults out.old) (K.faults out.new)) }
+    ensures ok { IfOk result (WritesAll geometry.now (form_of form.now) (K.taken out.old) (K.taken out.new)) }
+    ensures err { IfErr result (HasHalted (form_of form.now) width (new_board geometry.now None) (K.taken out.old) (K.taken out.new) (K.faults out.old) (K.faults out.new)) }
     ensures later { K.faults out.old ≤ K.faults out.new }
 {
     let Ok(own) = geometry.try_clone(alloc) else {

@@ -8,8 +8,8 @@ use ntfe_words::Command;
 /// What is to be done.
 #[derive(Clone, Copy, Drop)]
 pub enum Task {
-    /// List the classes, with solver numbers below 2^width in size.
-    Classes { push: Push, width: u8 },
+    /// List the classes, with their stars or without, with solver numbers below 2^width in size.
+    Classes { push: Push, stars: bool, width: u8 },
     /// List the points and two-faces.
     Faces,
 }
@@ -19,9 +19,10 @@ pub fn task_of(command: Command) -> Option<Task>
     ensures { MatchOption result (¬ (IsBuilt command)) (IsTaskOf command) }
 {
     match command {
-        Command::Classes(options) if options.limit.is_none() && !options.stars => {
+        Command::Classes(options) if options.limit.is_none() => {
             Some(Task::Classes {
                 push: options.push,
+                stars: options.stars,
                 width: options.width,
             })
         }

@@ -1,24 +1,11 @@
 //! The rows that show what no clause can: exact texts, messages and statuses, and that the calls succeed.
 
+use crate::pairs::{CROSS, LARGE, PYRAMID, SHEARED, SIMPLEX, SQUARES};
 use crate::{Status, run, run_alone};
 use io_edge::{MemorySink, MemorySource, OpenGate, SliceSource};
 use std::alloc::{AllocError, Global};
 use std::sync::Wait;
 use std::thread::Threads;
-
-const SIMPLEX: &str = "\
-vertices 5\n\
-1 0 0 0\n\
-0 1 0 0\n\
-0 0 1 0\n\
-0 0 0 1\n\
--1 -1 -1 -1\n\
-dual 5\n\
--1 -1 -1 -1\n\
-4 -1 -1 -1\n\
--1 4 -1 -1\n\
--1 -1 4 -1\n\
--1 -1 -1 4\n";
 
 const SIMPLEX_FACES: &str = "\
 points 5\n\
@@ -45,88 +32,11 @@ class 0 0 0 0 0 0 0 0 0 0\n\
 heights 0 0 0 0 0\n\
 end 1\n";
 
-const CROSS: &str = "\
-vertices 8\n\
-1 0 0 0\n\
--1 0 0 0\n\
-0 1 0 0\n\
-0 -1 0 0\n\
-0 0 1 0\n\
-0 0 -1 0\n\
-0 0 0 1\n\
-0 0 0 -1\n\
-dual 16\n\
--1 -1 -1 -1\n\
--1 -1 -1 1\n\
--1 -1 1 -1\n\
--1 -1 1 1\n\
--1 1 -1 -1\n\
--1 1 -1 1\n\
--1 1 1 -1\n\
--1 1 1 1\n\
-1 -1 -1 -1\n\
-1 -1 -1 1\n\
-1 -1 1 -1\n\
-1 -1 1 1\n\
-1 1 -1 -1\n\
-1 1 -1 1\n\
-1 1 1 -1\n\
-1 1 1 1\n";
-
 const CROSS_CLASS: &str = "\
 push up\n\
 class 0 0 0 0 0 0 0 0 0 0 0 0 0 0 0 0 0 0 0 0 0 0 0 0 0 0 0 0 0 0 0 0\n\
 heights 0 0 0 0 0 0 0 0\n\
 end 1\n";
-
-const LARGE: &str = "\
-vertices 5\n\
--1 -1 -1 -1\n\
-83 -1 -1 -1\n\
--1 6 -1 -1\n\
--1 -1 2 -1\n\
--1 -1 -1 1\n\
-dual 5\n\
--1 -12 -28 -42\n\
-1 0 0 0\n\
-0 1 0 0\n\
-0 0 1 0\n\
-0 0 0 1\n";
-
-const SHEARED: &str = "\
-vertices 5\n\
-1 0 0 0\n\
-0 1 0 0\n\
-0 0 1 0\n\
-300 300 300 1\n\
--301 -301 -301 -1\n\
-dual 5\n\
--1 -1 -1 899\n\
-4 -1 -1 -601\n\
--1 4 -1 -601\n\
--1 -1 4 -601\n\
--1 -1 -1 904\n";
-
-const PYRAMID: &str = "\
-vertices 7\n\
-1 0 0 0\n\
-0 1 0 0\n\
-1 0 1 0\n\
-0 1 1 0\n\
--1 -1 -1 0\n\
-0 0 0 1\n\
-0 0 0 -1\n\
-dual 10\n\
--1 -1 0 1\n\
--1 -1 0 -1\n\
--1 -1 3 1\n\
--1 -1 3 -1\n\
-2 2 -3 1\n\
-2 2 -3 -1\n\
--1 2 0 1\n\
--1 2 0 -1\n\
-2 -1 0 1\n\
-2 -1 0 -1\n";
 
 const PYRAMID_CLASSES: &str = "\
 push up\n\
@@ -136,33 +46,40 @@ class 1 0 0 0 0 0 0 0 0 0 0 0 0 0 0 0 0 0 0 0 0\n\
 heights 0 0 0 -1 0 0 0\n\
 end 2\n";
 
-const SQUARES: &str = "\
-vertices 8\n\
--1 -1 0 0\n\
--1 1 0 0\n\
-1 -1 0 0\n\
-1 1 0 0\n\
-0 0 -1 -1\n\
-0 0 -1 1\n\
-0 0 1 -1\n\
-0 0 1 1\n\
-dual 16\n\
--1 0 -1 0\n\
--1 0 0 -1\n\
--1 0 0 1\n\
--1 0 1 0\n\
-0 -1 -1 0\n\
-0 -1 0 -1\n\
-0 -1 0 1\n\
-0 -1 1 0\n\
-0 1 -1 0\n\
-0 1 0 -1\n\
-0 1 0 1\n\
-0 1 1 0\n\
-1 0 -1 0\n\
-1 0 0 -1\n\
-1 0 0 1\n\
-1 0 1 0\n";
+const PYRAMID_STARS: &str = "\
+push up\n\
+stars\n\
+class 0 0 0 0 0 0 0 0 0 0 0 0 0 0 0 0 0 0 0 0 0\n\
+heights 0 0 0 1 0 0 0\n\
+star 12\n\
+simplex 1 2 4 5\n\
+simplex 1 2 4 6\n\
+simplex 1 2 5 7\n\
+simplex 1 2 6 7\n\
+simplex 1 3 4 5\n\
+simplex 1 3 4 6\n\
+simplex 1 3 5 7\n\
+simplex 1 3 6 7\n\
+simplex 2 4 5 6\n\
+simplex 2 5 6 7\n\
+simplex 3 4 5 6\n\
+simplex 3 5 6 7\n\
+class 1 0 0 0 0 0 0 0 0 0 0 0 0 0 0 0 0 0 0 0 0\n\
+heights 0 0 0 -1 0 0 0\n\
+star 12\n\
+simplex 1 2 4 5\n\
+simplex 1 2 4 6\n\
+simplex 1 2 5 7\n\
+simplex 1 2 6 7\n\
+simplex 1 3 4 5\n\
+simplex 1 3 4 6\n\
+simplex 1 3 5 7\n\
+simplex 1 3 6 7\n\
+simplex 2 4 5 7\n\
+simplex 2 4 6 7\n\
+simplex 3 4 5 7\n\
+simplex 3 4 6 7\n\
+end 2\n";
 
 const SQUARES_CLASS: &str = "\
 push up\n\
@@ -344,7 +261,6 @@ fn words_without_a_meaning(rt: HostRuntime) -> Result<(), AllocError> {
 #[test]
 fn words_for_what_is_not_built(rt: HostRuntime) -> Result<(), AllocError> {
     for (first, second) in [
-        ("classes", "--stars"),
         ("classes", "--limit=1"),
         ("resume", "--push=up"),
         ("demo", "5"),
@@ -354,6 +270,15 @@ fn words_for_what_is_not_built(rt: HostRuntime) -> Result<(), AllocError> {
         assert!(rt; refused.err.bytes() == b"ntfe: not built: stage 6\n".as_slice());
         assert!(rt; refused.out.bytes().is_empty());
     }
+    Ok(())
+}
+
+#[test]
+fn the_stars_of_a_pyramid(rt: HostRuntime) -> Result<(), AllocError> {
+    let all = run_on(&rt, &["classes", "--stars"], PYRAMID, 9999)?;
+    let want = format!(in rt.alloc(); "ntfe 1\n{PYRAMID}{PYRAMID_STARS}")?;
+    assert_eq!(rt; all.code, 0);
+    assert!(rt; all.out.bytes() == want.as_bytes());
     Ok(())
 }
 

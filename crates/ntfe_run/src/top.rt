@@ -1,7 +1,8 @@
 //! The top call.
-ghost use Rattle.std.specs.Prelude.{◌≡◌, ◌≤◌, map, string_bytes, IfOk, IfErr};
+ghost use Rattle.std.specs.Prelude.{◌≡◌, ◌≤◌, ◌+◌, map, string_bytes, IfOk, IfErr};
 ghost use Rattle.ntfe_run.specs.Answers.{IsReadInput, IsReadStop, HasTaskCause, HasWritten, IsAnswer, HasAnswerCause, HasRunText, IsComplete};
 ghost use Rattle.ntfe_run.specs.Halts.{IsStatusOf, status_of_listing as listing_status};
+ghost use Rattle.ntfe_run.specs.Headline.{HasHeadline};
 ghost use Rattle.ntfe_run.specs.Tasks.{HasWidth};
 ghost use Rattle.ntfe_run.specs.Messages.{message_line, TellsMessage};
 
@@ -27,6 +28,7 @@ fn read_geometry<S: Source>(alloc: Global, source: &mut S) -> Result<Geometry, S
     ensures ok { IfOk result (IsReadInput (S.left source.old) (S.left source.new)) }
     ensures err { IfErr result (IsReadStop (S.left source.old) (S.left source.new) (S.faults source.old) (S.faults source.new)) }
     ensures later { S.faults source.old ≤ S.faults source.new }
+    ensures turns { S.turns source.new ≤ S.turns source.old + 65538 }
 {
     let bytes = match read_all(alloc, source, INPUT_LIMIT as usize) {
         Ok(bytes) => bytes,
@@ -88,15 +90,16 @@ fn list_faces<K: Sink>(alloc: Global, geometry: &Geometry, out: &mut K) -> Statu
 fn list_classes<K: Sink>(
     alloc: Global,
     push: Push,
+    stars: bool,
     width: u8,
     geometry: &Geometry,
     out: &mut K,
 ) -> Status
     requires low { 1 ≤ width }
     requires high { width ≤ 62 }
-    ensures { IsAnswer (Task.Classes push width) geometry.now (K.taken out.old) (K.taken out.new) (K.faults out.old) (K.faults out.new) result }
+    ensures { IsAnswer (Task.Classes push stars width) geometry.now (K.taken out.old) (K.taken out.new) (K.faults out.old) (K.faults out.new) result }
 {
-    status_of_listing(write_classes(alloc, push, width, geometry, out))
+    status_of_listing(write_classes(alloc, push, stars, width, geometry, out))
 }
 
 /// Does the task on the source and writes its answer.
@@ -104,6 +107,7 @@ fn do_task<S: Source, K: Sink>(alloc: Global, task: Task, source: &mut S, out: &
     requires { HasWidth task }
     ensures cause { HasTaskCause task (S.left source.old) (S.left source.new) (S.faults source.old) (S.faults source.new) (K.faults out.old) (K.faults out.new) result }
     ensures written { HasWritten task (S.left source.old) (S.left source.new) (K.taken out.old) (K.taken out.new) result }
+    ensures turns { S.turns source.new ≤ S.turns source.old + 65538 }
 {
     let geometry = match read_geometry(alloc, source) {
         Ok(geometry) => geometry,
@@ -111,7 +115,9 @@ fn do_task<S: Source, K: Sink>(alloc: Global, task: Task, source: &mut S, out: &
     };
     match task {
         Task::Faces => list_faces(alloc, &geometry, out),
-        Task::Classes { push, width } => list_classes(alloc, push, width, &geometry, out),
+        Task::Classes { push, stars, width } => {
+            list_classes(alloc, push, stars, width, &geometry, out)
+        }
     }
 }
 
@@ -124,6 +130,7 @@ fn answer<S: Source, K: Sink>(
 ) -> Status
     ensures cause { HasAnswerCause (map string_bytes words.now) (S.left source.old) (S.left source.new) (S.faults source.old) (S.faults source.new) (K.faults out.old) (K.faults out.new) result }
     ensures text { HasRunText (map string_bytes words.now) (S.left source.old) (S.left source.new) (K.taken out.old) (K.taken out.new) result }
+    ensures turns { S.turns source.new ≤ S.turns source.old + 65538 }
 {
     let command = match read_words(alloc, words) {
         Ok(command) => command,
@@ -147,6 +154,8 @@ pub fn run_alone<S: Source, K: Sink, E: Sink>(
 ) -> Status
     ensures cause { HasAnswerCause (map string_bytes words.now) (S.left source.old) (S.left source.new) (S.faults source.old) (S.faults source.new) (K.faults out.old) (K.faults out.new) result }
     ensures text { HasRunText (map string_bytes words.now) (S.left source.old) (S.left source.new) (K.taken out.old) (K.taken out.new) result }
+    ensures headline { HasHeadline (map string_bytes words.now) (S.left source.old) (S.left source.new) (K.taken out.old) (K.taken out.new) result }
+    ensures turns { S.turns source.new ≤ S.turns source.old + 65538 }
     ensures complete { IsComplete (map string_bytes words.now) (S.left source.old) (S.faults source.old) (S.faults source.new) (K.faults out.old) (K.faults out.new) result }
     ensures message { TellsMessage (E.taken err.old) (E.taken err.new) (E.faults err.old) (E.faults err.new) (message_line result) }
 {
@@ -167,6 +176,8 @@ pub fn run<R: Threads + Wait + Sync, S: Source, K: Sink, E: Sink, G: Gate + Sync
 ) -> Status
     ensures cause { HasAnswerCause (map string_bytes words.now) (S.left source.old) (S.left source.new) (S.faults source.old) (S.faults source.new) (K.faults out.old) (K.faults out.new) result }
     ensures text { HasRunText (map string_bytes words.now) (S.left source.old) (S.left source.new) (K.taken out.old) (K.taken out.new) result }
+    ensures headline { HasHeadline (map string_bytes words.now) (S.left source.old) (S.left source.new) (K.taken out.old) (K.taken out.new) result }
+    ensures turns { S.turns source.new ≤ S.turns source.old + 65538 }
     ensures complete { IsComplete (map string_bytes words.now) (S.left source.old) (S.faults source.old) (S.faults source.new) (K.faults out.old) (K.faults out.new) result }
     ensures message { TellsMessage (E.taken err.old) (E.taken err.new) (E.faults err.old) (E.faults err.new) (message_line result) }
 {

@@ -2,7 +2,8 @@ use Rattle.std.proofs.Common.{refl, sym, ◌∙◌, subst, arith, Bool}
 use Rattle.std.proofs.lemmas.Result.{err_from_is_err_and}
 use Rattle.ntfe_model.specs.Shapes.{Shape}
 use Rattle.choice_board.specs.States.{State}
-use Rattle.ntfe_run.specs.PlainText.{IsPlainForm, plain_form}
+use Rattle.class_text.specs.Forms.{form_of}
+use Rattle.ntfe_run.specs.Forms.{IsFormOf}
 use Rattle.ntfe_run.specs.Probing.{Probes}
 use Rattle.ntfe_run.specs.Listed.{IsUnderWay, WritesOn, HasSettledLeast, IsOver}
 use Rattle.ntfe_run.proofs.GoingOn.{writes_nothing_on, writes_on_then, writes_part_then}
@@ -13,9 +14,9 @@ use Rattle.ntfe_run.proofs.listing.list_all.Goals as goal
 pub loop-prober-init : goal.loop-prober-init
 loop-prober-init g c = (writes_nothing_on _ _ _ _ refl refl refl, refl, c.requires.under_way, c.requires.sound, (let n = g.K.Sink.faults c.args.out.now in omega arith))
 
-pub write_ready-requires-clause-plain : goal.write_ready-requires-clause-plain
-write_ready-requires-clause-plain g c =
-    subst (λ (x : Shape). IsPlainForm c.args.form.now.push x c.args.form.now) (sym c.loop-prober.invariant.0.on.geometry) c.requires.plain
+pub write_ready-requires-clause-form : goal.write_ready-requires-clause-form
+write_ready-requires-clause-form g c =
+    subst (λ (x : Shape). IsFormOf x c.args.form.now) (sym c.loop-prober.invariant.0.on.geometry) c.requires.form
 
 pub returns-in_err-write_ready-clause-err : goal.returns-in_err-write_ready-clause-err
 returns-in_err-write_ready-clause-err g c =
@@ -23,7 +24,7 @@ returns-in_err-write_ready-clause-err g c =
     let i = c.loop-prober.invariant in
     let width = c.args.prober.now.width in
     rw (p.1, p.2)
-    (halt_then (plain_form c.args.form.now.push) width c.args.board.now c.loop-prober.board _ _ _ _ _ _ c.in_err-write_ready.field-0.0 i.0 i.4
+    (halt_then (form_of c.args.form.now) width c.args.board.now c.loop-prober.board _ _ _ _ _ _ c.in_err-write_ready.field-0.0 i.0 i.4
     (c.in_err-write_ready.ensures.err width (subst (λ (x : Shape). IsUnderWay x width c.loop-prober.board) (sym i.2.geometry) i.2)))
 
 pub settle_least-requires : goal.settle_least-requires
@@ -60,7 +61,7 @@ returns-in-Ok-false-clause-ok g c =
     let t = c.write_ready.new.board in
     let u = c.settle_least.new.board in
     let none = subst (λ (b : Bool). HasSettledLeast c.loop-prober.prober.width t u b) c.in-Ok-false.field-0-test c.in-Ok-false.ensures.settled in
-    subst (λ (x : State). WritesOn (plain_form c.args.form.now.push) c.args.board.now x (g.K.Sink.taken c.args.out.now) (g.K.Sink.taken c.write_ready.new.out)) (sym none.0)
+    subst (λ (x : State). WritesOn (form_of c.args.form.now) c.args.board.now x (g.K.Sink.taken c.args.out.now) (g.K.Sink.taken c.write_ready.new.out)) (sym none.0)
     (writes_on_then _ _ _ _ _ _ _ c.loop-prober.invariant.0 c.in_ok-write_ready.ensures.ok)
 
 pub returns-in-Ok-false-clause-over : goal.returns-in-Ok-false-clause-over
@@ -72,4 +73,4 @@ returns-in-Ok-false-clause-over g c =
 
 pub returns-in-Err-clause-err : goal.returns-in-Err-clause-err
 returns-in-Err-clause-err g c =
-    writes_part_then _ _ _ _ _ _ (writes_on_then _ _ _ _ _ _ _ c.loop-prober.invariant.0 c.in_ok-write_ready.ensures.ok) (halt_here (plain_form c.args.form.now.push) 0 c.write_ready.new.board (g.K.Sink.taken c.write_ready.new.out) 0)
+    writes_part_then _ _ _ _ _ _ (writes_on_then _ _ _ _ _ _ _ c.loop-prober.invariant.0 c.in_ok-write_ready.ensures.ok) (halt_here (form_of c.args.form.now) 0 c.write_ready.new.board (g.K.Sink.taken c.write_ready.new.out) 0)

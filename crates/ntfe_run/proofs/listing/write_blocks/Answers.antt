@@ -1,19 +1,19 @@
 use Rattle.std.proofs.Common.{refl, ap, ◌∙◌, None}
 use Rattle.choice_board.specs.Starts.{new_board}
-use Rattle.ntfe_run.specs.PlainText.{plain_form}
+use Rattle.class_text.specs.Forms.{form_of}
 use Rattle.ntfe_run.proofs.Turns.{halt_here, all_written}
 use Rattle.ntfe_run.proofs.listing.write_blocks.Goals as goal
 
 pub returns-in_default-clause-err : goal.returns-in_default-clause-err
-returns-in_default-clause-err g c = halt_here (plain_form c.args.form.now.push) 0 (new_board c.args.geometry.now None) (g.K.Sink.taken c.args.out.now) 0
+returns-in_default-clause-err g c = halt_here (form_of c.args.form.now) 0 (new_board c.args.geometry.now None) (g.K.Sink.taken c.args.out.now) 0
 
 pub returns-in_default-new-clause-err : goal.returns-in_default-new-clause-err
-returns-in_default-new-clause-err g c = halt_here (plain_form c.args.form.now.push) 0 (new_board c.args.geometry.now None) (g.K.Sink.taken c.args.out.now) 0
+returns-in_default-new-clause-err g c = halt_here (form_of c.args.form.now) 0 (new_board c.args.geometry.now None) (g.K.Sink.taken c.args.out.now) 0
 
 pub returns-in_default-new-2-clause-err : goal.returns-in_default-new-2-clause-err
-returns-in_default-new-2-clause-err g c = halt_here (plain_form c.args.form.now.push) 0 (new_board c.args.geometry.now None) (g.K.Sink.taken c.args.out.now) 0
+returns-in_default-new-2-clause-err g c = halt_here (form_of c.args.form.now) 0 (new_board c.args.geometry.now None) (g.K.Sink.taken c.args.out.now) 0
 
 pub returns-clause-ok : goal.returns-clause-ok
 returns-clause-ok g c =
-    all_written c.args.geometry.now (plain_form c.args.form.now.push) refl c.requires.some c.in-Ok-new.board c.list_all.new.board (c.in-Ok-new.ensures.value ∙ ap (λ x. new_board x None) c.in-Ok.ensures) c.list_all.ensures.sound
+    all_written c.args.geometry.now (form_of c.args.form.now) c.requires.some c.in-Ok-new.board c.list_all.new.board (c.in-Ok-new.ensures.value ∙ ap (λ x. new_board x None) c.in-Ok.ensures) c.list_all.ensures.sound
     (g.K.Sink.taken c.args.out.now) (g.K.Sink.taken c.list_all.new.out) c.in_ok-list_all.ensures.ok c.in_ok-list_all.ensures.over c.totals.result.written (ap (λ x. x.written) c.totals.ensures)

@@ -13,7 +13,7 @@ returns-clause-cause g c =
     let k = c.args.out.now in
     let k' = c.list_classes.new.out in
     rw c.in-Classes.is
-    (answer_cause (Classes c.in-Classes.push c.in-Classes.width) c.in-Ok.geometry (left s) (left s') (source s) (source s') (sink k) (sink k') (taken k) (taken k') c.in-Ok.ensures.ok c.list_classes.result c.list_classes.ensures)
+    (answer_cause (Classes c.in-Classes.push c.in-Classes.stars c.in-Classes.width) c.in-Ok.geometry (left s) (left s') (source s) (source s') (sink k) (sink k') (taken k) (taken k') c.in-Ok.ensures.ok c.list_classes.result c.list_classes.ensures)
 
 pub returns-clause-written : goal.returns-clause-written
 returns-clause-written g c =
@@ -26,4 +26,4 @@ returns-clause-written g c =
     let k = c.args.out.now in
     let k' = c.list_classes.new.out in
     rw c.in-Classes.is
-    (answer_written (Classes c.in-Classes.push c.in-Classes.width) c.in-Ok.geometry (left s) (left s') (source s) (source s') (sink k) (sink k') (taken k) (taken k') c.in-Ok.ensures.ok c.list_classes.result c.list_classes.ensures)
+    (answer_written (Classes c.in-Classes.push c.in-Classes.stars c.in-Classes.width) c.in-Ok.geometry (left s) (left s') (source s) (source s') (sink k) (sink k') (taken k) (taken k') c.in-Ok.ensures.ok c.list_classes.result c.list_classes.ensures)

@@ -1,0 +1,92 @@
+-- From the text of a run to the headline: extendable choices are those that fine regular star triangulations induce.
+use Rattle.std.proofs.Common.{◌≡◌, ◌∙◌, refl, sym, ap, subst, Bool, true, false, cond, ℕ, ℤ, List, length, Some, None}
+use Rattle.std.specs.Prelude.{Option}
+use Rattle.ntfe_model.specs.Lists.{IsBelow}
+use Rattle.ntfe_model.specs.Shapes.{Shape, IsShape}
+use Rattle.ntfe_model.specs.Stars.{IsStar, IsMember, IsFrst, Induces, order_of}
+use Rattle.ntfe_model.specs.RunText.{Form, Block, IsStarOf, IsBlockOf, IsRunText, nothing_kept}
+use Rattle.ntfe_model.proofs.Listings.{listing_same, listing_unique}
+use Rattle.ntfe_model.proofs.Orders.{below_once}
+use Rattle.ntfe_words.specs.CommandLine.{IsMeaning}
+use Rattle.ntfe_words.specs.declared.command.Command.{Command}
+use Rattle.ntfe_words.specs.declared.command.Command.TheVariants as command
+use Rattle.ntfe_words.specs.declared.command.Options.{Options}
+use Rattle.ntfe_run.specs.Answers.{TakesAll, IsAnswerText, HasRunText, form_of_options}
+use Rattle.ntfe_run.specs.Headline.{IsInducedBlock, IsHeadlineText, HasHeadline}
+use Rattle.ntfe_run.specs.declared.status.Status.{Status}
+use Rattle.ntfe_run.specs.declared.status.Status.TheVariants.{Done, Usage, Refused, Overflow, Limit, Memory, ReadFault, WriteFault}
+use Rattle.ntfe_run.proofs.Completeness.{meaning_fixed}
+use Rattle.ntfe_run.proofs.HeightsExtend.{heights_extend}
+use Rattle.star_builder.proofs.FineStars.{extended_star}
+use Rattle.star_builder.proofs.InducedHeights.{induced_extendable}
+use Rattle.star_builder.proofs.StarListing.{star_exists, push_order}
+
+module _ (g : Shape) (s : IsShape g) (form : Form) where
+  -- what is shown as the star of the heights is that star
+  shown_star : (b : Block) (star : List (List ℕ)) → IsStar g.pair.dual g.points b.heights (order_of form.push (length g.points)) star → (shown : Option (List (List ℕ))) → IsStarOf g form b shown → shown ≡ cond form.stars (Some star) None
+  shown_star b star k None h = ap (λ t. cond t (Some star) None) (sym h)
+  shown_star b star k (Some other) h =
+      let order = order_of form.push (length g.points) in
+      let same : other ≡ star = listing_unique IsBelow (IsMember g.pair.dual g.points b.heights order) below_once other star h.1 k in
+      ap (λ x. Some x) same ∙ ap (λ t. cond t (Some star) None) (sym h.0)
+
+  star_shown : (b : Block) (star : List (List ℕ)) → IsStar g.pair.dual g.points b.heights (order_of form.push (length g.points)) star → (t : Bool) → form.stars ≡ t → b.star ≡ cond t (Some star) None → IsStarOf g form b b.star
+  star_shown b star k true e h = subst (λ (x : Option (List (List ℕ))). IsStarOf g form b x) (sym h) (e, k)
+  star_shown b star k false e h = subst (λ (x : Option (List (List ℕ))). IsStarOf g form b x) (sym h) e
+
+  induced_block : (b : Block) → IsBlockOf g form None b → IsInducedBlock g form b
+  induced_block b k =
+      let extends = heights_extend g s b.choice b.heights k.extendable.items k.heights in
+      let n = length g.points in
+      let order = order_of form.push n in
+      let lifted = star_exists g.pair.dual g.points b.heights order in
+      let fine = extended_star g b.choice b.heights order lifted.0 s k.extendable.items extends (push_order form.push n) lifted.1 in
+      record {
+        induced = record { items = k.extendable.items; star = lifted.0; frst = fine.0; induces = fine.1 };
+        heights = k.heights;
+        extends = extends;
+        star = lifted.0;
+        is_star = lifted.1;
+        frst = fine.0;
+        induces = fine.1;
+        shown = shown_star b lifted.0 lifted.1 b.star k.star;
+      }
+
+  extendable_block : (b : Block) → IsInducedBlock g form b → IsBlockOf g form None b
+  extendable_block b k = record {
+    extendable = induced_extendable g b.choice s k.induced;
+    after = tt;
+    heights = k.heights;
+    star = star_shown b k.star k.is_star form.stars refl k.shown;
+  }
+
+  headline_text : (text : List ℕ) → IsRunText g form nothing_kept None text → IsHeadlineText form g text
+  headline_text text h = record {
+    blocks = h.blocks;
+    are = listing_same (λ b c. IsBelow b.choice c.choice) (IsBlockOf g form None) (IsInducedBlock g form) h.blocks h.are induced_block extendable_block;
+    is = h.is;
+  }
+
+module _ (words : List (List ℕ)) (left left' taken taken' : Option (List ℕ)) where
+  done : HasRunText words left left' taken taken' Done → HasHeadline words left left' taken taken' Done
+  done (c, m, h) o n e =
+      let a : TakesAll (IsAnswerText (command.Classes o)) left left' taken taken' = subst (λ (d : Command). TakesAll (IsAnswerText d) left left' taken taken') (meaning_fixed words c (command.Classes o) m n) h in
+      record {
+        input = a.input;
+        read = a.read;
+        takes = record {
+          text = a.takes.text;
+          is = headline_text a.input a.read.holds.shape (form_of_options o) a.takes.text (subst (λ (l : Option ℕ). IsRunText a.input (form_of_options o) nothing_kept l a.takes.text) e a.takes.is);
+          all = a.takes.all;
+        };
+      }
+
+  pub headline : (status : Status) → HasRunText words left left' taken taken' status → HasHeadline words left left' taken taken' status
+  headline Done h = done h
+  headline Usage h = tt
+  headline (Refused refusal) h = tt
+  headline (Overflow choice step number) h = tt
+  headline (Limit face) h = tt
+  headline Memory h = tt
+  headline ReadFault h = tt
+  headline WriteFault h = tt
