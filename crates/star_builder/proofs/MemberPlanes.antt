@@ -32,7 +32,7 @@ first_divided size above f g same (k ∷ ks) y z e (inr (q, rest)) =
     no u l r = absurd (omega (arith, ints, l, r))
 
 -- the size of a number that is not 0
-size_positive : (d size : ℤ) → d ≢ pos 0 → size ≡ pos (unsigned_abs d) → pos 0 <ℤ size
+pub size_positive : (d size : ℤ) → d ≢ pos 0 → size ≡ pos (unsigned_abs d) → pos 0 <ℤ size
 size_positive (pos zero) size n e = absurd (n refl)
 size_positive (pos (suc m)) size n e = omega (arith, ints, e)
 size_positive (negsuc m) size n e = omega (arith, ints, e)

@@ -30,7 +30,7 @@ use Rattle.star_builder.proofs.Weights.{weight, weighed, leader_decides}
 abbrev pub volume_bound : ℕ
 volume_bound = 26285350748184
 
-volume_small : (a b c d : Vector) → IsSmall a → IsSmall b → IsSmall c → IsSmall d → unsigned_abs (det4 a b c d) ≤ volume_bound
+pub volume_small : (a b c d : Vector) → IsSmall a → IsSmall b → IsSmall c → IsSmall d → unsigned_abs (det4 a b c d) ≤ volume_bound
 unfolding det4
 volume_small a b c d sa sb sc sd =
     value-size (of4 a b c d) (1023 ∷ 1023 ∷ 1023 ∷ 1023 ∷ 1023 ∷ 1023 ∷ 1023 ∷ 1023 ∷ 1023 ∷ 1023 ∷ 1023 ∷ 1023 ∷ 1023 ∷ 1023 ∷ 1023 ∷ 1023 ∷ [])

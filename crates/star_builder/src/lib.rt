@@ -25,7 +25,7 @@ mod whole;
 pub use closing::star_closes;
 pub use extendable::extendable_is_induced;
 pub use lexicographic::induced_is_extendable;
-pub use origin::origin_height;
+pub use origin::{origin_height, origin_lies_low};
 pub use restricted::restriction_is_fine;
 pub use restriction::restrict;
 pub use star::Star;

@@ -1,6 +1,11 @@
 //! A height for the origin.
-ghost use Rattle.std.specs.Prelude.{◌≡◌, ◌<◌, ◌^◌, All, unsigned_abs};
-ghost use Rattle.ntfe_model.specs.Stars.{greatest_size, origin_height as height_of_origin};
+ghost use Rattle.std.specs.Prelude.{◌≡◌, ◌<◌, ◌^◌, ℕ, ℤ, List, [], ◌∷◌, All, unsigned_abs};
+ghost use Rattle.ntfe_model.specs.Lists.{IsNumberOf};
+ghost use Rattle.ntfe_model.specs.Pairs.{entry};
+ghost use Rattle.ntfe_model.specs.Reflexive.{IsTight};
+ghost use Rattle.ntfe_model.specs.Points.{place_of_point};
+ghost use Rattle.ntfe_model.specs.Shapes.{Shape, IsShape};
+ghost use Rattle.ntfe_model.specs.Stars.{IsMember, AreIn, IsAboveOriginPlane, greatest_size, origin_height as height_of_origin};
 
 use ntfe_model::Heights;
 
@@ -25,6 +30,18 @@ pub fn origin_height(heights: &Heights) -> i128
     let most = greatest(heights.0.as_slice());
     -(1 + most as i128 * ((1 << 47) + 1))
 }
+
+/// A law: with `origin_height` at the origin, the plane through the origin and a member of the star lies
+/// strictly below every point outside the member's facet. Within the facet the star's own heights and order
+/// decide. So the star, joined to the origin, is the regular triangulation by these heights, with ties broken
+/// by the order of pushing. The function does nothing: its contract is the law.
+///
+/// Regular and star triangulations: De Loera, Rambau and Santos, "Triangulations".
+pub fn origin_lies_low()
+    ensures { (g : Shape) (w : List ℤ) (order : List ℕ) (a b c d p facet : ℕ) → IsShape g → IsMember g.pair.dual g.points w order (a ∷ b ∷ c ∷ d ∷ [])
+        → AreIn g.pair.dual g.points facet (a ∷ b ∷ c ∷ d ∷ []) → IsNumberOf g.points p → ¬ (IsTight (entry g.pair.dual facet) (place_of_point g.points p))
+        → IsAboveOriginPlane g.points w (height_of_origin w) a b c d p }
+{}
 
 #[cfg(test)]
 mod tests {
