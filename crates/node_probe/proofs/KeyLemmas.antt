@@ -1,6 +1,6 @@
 -- The numbers of a key, and what a book keeps for them.
 use Rattle.std.proofs.Common.{◌≡◌, ◌≢◌, ℕ, ◌+◌, ◌-◌, ◌<◌, ◌≤◌, ◌⊎◌, inl, inr, sym, subst, arith, List, length, get_or}
-use Rattle.std.specs.Prelude.{Some, None, Option, MatchBool, MatchOption, Bool, true, false}
+use Rattle.std.specs.Prelude.{Some, Option, MatchBool, MatchOption, Bool, true, false}
 use Rattle.std.proofs.lemmas.List.{get_or-take, length-take-le}
 use Rattle.ntfe_model.specs.Shapes.{Shape}
 use Rattle.ntfe_model.specs.Books.{KeepsItem, KeepsAll}
@@ -54,9 +54,6 @@ match_true A B false h e = cc
 pub match_false : (A B : Type 0) (b : Bool) → MatchBool b A B → b ≡ false → B
 match_false A B true h e = cc
 match_false A B false h e = h
-
-pub match_none : {X : Type 0} (A : Type 0) (B : X → Type 0) (o : Option X) → MatchOption o A B → o ≡ None → A
-match_none {X} A B o h e = let P : Option X → Type 0 = λ p. MatchOption p A B in subst P e h
 
 pub match_some : {X : Type 0} (A : Type 0) (B : X → Type 0) (o : Option X) (x : X) → MatchOption o A B → o ≡ Some x → B x
 match_some {X} A B o x h e = let P : Option X → Type 0 = λ p. MatchOption p A B in subst P e h

@@ -1,14 +1,36 @@
 //! The folds of a head.
-ghost use Rattle.std.specs.Prelude.{◌≡◌, ◌++◌, length, replicate, OnOk};
+ghost use Rattle.std.specs.Prelude.{◌≡◌, [], ◌++◌, length, replicate, OnOk};
 
 use ntfe_model::Fold;
-use std::alloc::AllocError;
+use std::alloc::{AllocError, Global};
 
 /// The folds of a head, with the two-face of each, from 0.
 #[derive(Drop)]
 pub struct HeadRows {
     pub folds: Vec<Fold>,
     pub faces: Vec<u32>,
+}
+
+impl HeadRows {
+    /// No folds, without memory.
+    pub fn new(alloc: Global) -> HeadRows
+        ensures folds { result.folds.items ≡ [] }
+        ensures faces { result.faces.items ≡ [] }
+    {
+        HeadRows {
+            folds: Vec::new(alloc),
+            faces: Vec::new(alloc),
+        }
+    }
+
+    /// Drops the folds, and keeps the memory.
+    pub fn clear(&mut self)
+        ensures folds { self.new.folds.items ≡ [] }
+        ensures faces { self.new.faces.items ≡ [] }
+    {
+        self.folds.clear();
+        self.faces.clear();
+    }
 }
 
 /// Adds the folds of a two-face.

@@ -12,7 +12,7 @@ ghost use Rattle.node_probe.specs.Findings.{IsWithin, IsFinding};
 use crate::fetching::fetch_head;
 use crate::finding::Finding;
 use crate::shelf::Shelf;
-use crate::solving::{is_lifted, make_room, solve_head};
+use crate::solving::judge_head;
 use nogood_set::NogoodSet;
 use ntfe_model::{Book, Geometry, ITEM_LIMIT, Key};
 use std::alloc::{AllocError, Global};
@@ -60,7 +60,8 @@ fn found_before<B: Book>(
 /// The items that were looked for are kept in the book, which loses none, and their folds on the shelf
 /// of the geometry, so that a later probe does not make them again. Heights that the solver finds are kept
 /// there too: where those of a key's stem lift all folds of the key and a two-face is left, the solver is
-/// not asked. Where the head has more folds than the tableau has rows, a larger one takes its place.
+/// not asked. The rows of a head use the memory of those before. Where the head has more folds than the
+/// tableau has rows, a larger one takes its place.
 ///
 /// # Errors
 /// `AllocError` where memory is short.
@@ -92,11 +93,9 @@ pub fn probe_shelved<B: Book>(
         return Ok(finding);
     }
     let rows = shelf.head_rows(alloc, key, book)?;
-    if is_lifted(geometry, key, &rows, shelf)? {
-        return Ok(Finding::Descend);
-    }
-    make_room(alloc, tableau, rows.folds.len() as u32, columns)?;
-    solve_head(alloc, geometry, key, &rows, shelf, tableau, width)
+    let finding = judge_head(alloc, geometry, columns, key, &rows, shelf, tableau, width)?;
+    shelf.take_back(rows);
+    Ok(finding)
 }
 
 /// What is found at a key of the geometry, as [`probe_shelved`] has it, with a shelf of its own. Whoever

@@ -1,5 +1,5 @@
 //! What probes of a geometry's keys keep: the folds of its items, and heights.
-ghost use Rattle.std.specs.Prelude.{◌≡◌, ◌<◌, ◌≤◌, ◌^◌, true, length, All, IfOk, OnOk};
+ghost use Rattle.std.specs.Prelude.{◌≡◌, ◌<◌, ◌≤◌, ◌^◌, true, [], length, All, IfOk, OnOk};
 ghost use Rattle.fold_rows.specs.Rows.{IsSmallFold};
 ghost use Rattle.ntfe_model.specs.Words.{IsItem};
 ghost use Rattle.ntfe_model.specs.Charts.{patch_at};
@@ -16,6 +16,7 @@ use fold_rows::folds;
 use ntfe_model::{Book, Fold, Geometry, Key, List, Triangulation};
 use std::alloc::{AllocError, Global};
 use std::marker::Model;
+use std::mem;
 
 /// Makes the place, with nothing at it where it is new.
 fn make_place(kept: &mut Vec<Option<List<Fold>>>, place: usize) -> Result<(), AllocError>
@@ -119,13 +120,16 @@ fn add_kept<B: Book>(
     shelf.add_folds(alloc, face, number, item, rows)
 }
 
-/// The folds of the head's items, which the book keeps.
+/// The folds of the head's items, which the book keeps, in the memory of rows that are empty.
 fn shelved_rows<B: Book>(
     alloc: Global,
     shelves: &mut Vec<FaceShelf>,
+    empty: HeadRows,
     key: &Key,
     book: &B,
 ) -> Result<HeadRows, AllocError>
+    requires folds { empty.folds.items ≡ [] }
+    requires faces { empty.faces.items ≡ [] }
     requires patches { shelves.old.items ≡ patches (B.shape book.now) }
     requires key { IsKey (B.shape book.now) key.now }
     requires few { length key.now < 2 ^ 32 }
@@ -134,10 +138,7 @@ fn shelved_rows<B: Book>(
     ensures rows { IfOk result (λ h. AreHeadRows (B.shape book.now) key.now h.folds.items h.faces.items) }
 {
     let numbers = key.0.as_slice();
-    let mut rows = HeadRows {
-        folds: Vec::new(alloc),
-        faces: Vec::new(alloc),
-    };
+    let mut rows = empty;
     for face in 0..numbers.len() {
         let shelf = &mut shelves[face];
         add_kept(alloc, shelf, book, face as u32, numbers[face], &mut rows)?;
@@ -145,12 +146,14 @@ fn shelved_rows<B: Book>(
     Ok(rows)
 }
 
-/// The charts of a geometry's two-faces, with the folds of their items that were asked for, and the
-/// heights that the solver found on the way to the last key. Contracts see the patches.
+/// The charts of a geometry's two-faces, with the folds of their items that were asked for, the heights
+/// that the solver found on the way to the last key, and memory for the folds of a head. Contracts see the
+/// patches.
 #[derive(Drop)]
 pub struct Shelf {
     faces: Vec<FaceShelf>,
     heights: StemHeights,
+    spare: HeadRows,
 }
 
 impl Model for Shelf {
@@ -179,6 +182,7 @@ impl Shelf {
         Ok(Shelf {
             faces,
             heights: StemHeights::new(alloc, count)?,
+            spare: HeadRows::new(alloc),
         })
     }
 
@@ -211,7 +215,7 @@ impl Shelf {
         self.heights.lift(key.0.as_slice().len() - 1, folds, points)
     }
 
-    /// The folds of the head's items, which the book keeps.
+    /// The folds of the head's items, which the book keeps. They use the memory of rows that were taken back.
     pub(crate) fn head_rows<B: Book>(
         &mut self,
         alloc: Global,
@@ -225,6 +229,15 @@ impl Shelf {
         ensures patches { self.new ≡ self.old }
         ensures rows { IfOk result (λ h. AreHeadRows (B.shape book.now) key.now h.folds.items h.faces.items) }
     {
-        shelved_rows(alloc, &mut self.faces, key, book)
+        let mut empty = mem::replace(&mut self.spare, HeadRows::new(alloc));
+        empty.clear();
+        shelved_rows(alloc, &mut self.faces, empty, key, book)
+    }
+
+    /// Takes rows back, whose memory the next head's rows use.
+    pub(crate) fn take_back(&mut self, rows: HeadRows)
+        ensures { self.new ≡ self.old }
+    {
+        self.spare = rows;
     }
 }

@@ -15,7 +15,7 @@ use std::alloc::{AllocError, Global};
 use strict_solver::{Solved, Tableau};
 
 /// Takes a larger tableau where the rows are more than this one holds.
-pub fn make_room(
+fn make_room(
     alloc: Global,
     tableau: &mut Tableau,
     rows: u32,
@@ -34,7 +34,7 @@ pub fn make_room(
 
 /// Whether a two-face is left and heights that are kept lift the folds of the head. Then these can't
 /// cancel, and the solver need not be asked.
-pub fn is_lifted(
+fn is_lifted(
     geometry: &Geometry,
     key: &Key,
     rows: &HeadRows,
@@ -54,7 +54,7 @@ pub fn is_lifted(
 }
 
 /// What the solver finds on the folds of a head. Heights that it finds are kept on the shelf.
-pub fn solve_head(
+fn solve_head(
     alloc: Global,
     geometry: &Geometry,
     key: &Key,
@@ -92,4 +92,35 @@ pub fn solve_head(
         }
         _ => Ok(Finding::Descend),
     }
+}
+
+/// What the folds of a head say of its key: where heights that are kept lift them and a two-face is left,
+/// it is to be gone into; else what the solver finds.
+pub fn judge_head(
+    alloc: Global,
+    geometry: &Geometry,
+    columns: u32,
+    key: &Key,
+    rows: &HeadRows,
+    shelf: &mut Shelf,
+    tableau: &mut Tableau,
+    width: u8,
+) -> Result<Finding, AllocError>
+    requires shape { IsShape geometry.now }
+    requires key { IsKey geometry.now key.now }
+    requires within { IsWithin geometry.now key.now }
+    requires rows { AreHeadRows geometry.now key.now rows.now.folds.items rows.now.faces.items }
+    requires points { columns ≡ length geometry.now.points }
+    requires columns { tableau.old.columns ≡ columns }
+    requires low { 1 ≤ width }
+    requires high { width ≤ 62 }
+    ensures patches { shelf.new ≡ shelf.old }
+    ensures columns { tableau.new.columns ≡ tableau.old.columns }
+    ensures solution { IfOk result (IsSolution geometry.now width key.now) }
+{
+    if is_lifted(geometry, key, rows, shelf)? {
+        return Ok(Finding::Descend);
+    }
+    make_room(alloc, tableau, rows.folds.len() as u32, columns)?;
+    solve_head(alloc, geometry, key, rows, shelf, tableau, width)
 }
