@@ -5,6 +5,7 @@ use Rattle.std.specs.List.{insert, remove}
 use Rattle.std.proofs.lemmas.List.{get_or_default, take-append-drop, get_or-take, get_or-drop, length-take}
 use Rattle.std.proofs.lemmas.List.Elements.{Contains-get_or, All-contains, Contains-append_left, Contains-append_right, Contains-append_cases}
 use Rattle.std.proofs.lemmas.List.Kept.{AllPairs-cons}
+use Rattle.ntfe_model.proofs.Lists.{Contains-from_map, pairs_first, pairs_across}
 use Rattle.ntfe_model.specs.Lists.{IsBelow}
 use Rattle.ntfe_model.proofs.Orders.{below_chain}
 use Rattle.ntfe_model.proofs.Listings.{Contains-here, Contains-there, Contains-cases, Contains-none, AllPairs-head, AllPairs-tail, AllPairs-append, All-from_contains}
@@ -13,23 +14,9 @@ use Rattle.choice_board.proofs.KeyOrder.{not_below_itself}
 
 -- ---- the two parts of a row
 
-pub pairs_first : {X : Type 0} (R : X → X → Type 0) (xs ys : List X) → AllPairs R (xs ++ ys) → AllPairs R xs
-pairs_first R [] ys h = λ i j d k l. absurd (omega arith)
-pairs_first R (x ∷ xs) ys h =
-    AllPairs-cons R x xs (All-from_contains (R x) xs (λ z p. All-contains (R x) (xs ++ ys) z (AllPairs-head R x (xs ++ ys) h) (Contains-append_left xs ys z p)))
-    (pairs_first R xs ys (AllPairs-tail R x (xs ++ ys) h))
-
 pub pairs_second : {X : Type 0} (R : X → X → Type 0) (xs ys : List X) → AllPairs R (xs ++ ys) → AllPairs R ys
 pairs_second R [] ys h = h
 pairs_second R (x ∷ xs) ys h = pairs_second R xs ys (AllPairs-tail R x (xs ++ ys) h)
-
-pub pairs_across : {X : Type 0} (R : X → X → Type 0) (xs ys : List X) → AllPairs R (xs ++ ys) → (x y : X) → Contains xs x → Contains ys y → R x y
-pairs_across R [] ys h x y p q = Contains-none x p
-pairs_across {X} R (z ∷ xs) ys h x y p q = by (Contains-cases x z xs p) (λ r. pairs_across R xs ys (AllPairs-tail R z (xs ++ ys) h) x y r q)
-  where
-    by : (x ≡ z) ⊎ Contains xs x → (Contains xs x → R x y) → R x y
-    by (inl e) rest = let P : X → Type 0 = λ w. R w y in subst P (sym e) (All-contains (R z) (xs ++ ys) y (AllPairs-head R z (xs ++ ys) h) (Contains-append_right xs ys y q))
-    by (inr r) rest = rest r
 
 -- ---- a thing more between two parts
 
@@ -123,22 +110,6 @@ has_remove {X} key row i d x l h =
     (has_without R (falls key) (take i row) (get_or row i d) (drop (suc i) row) x (subst (AllPairs R) (sym (cut_at row i d l)) h))
 
 -- ---- mapped lists
-
-pub Contains-map : {X Y : Type 0} (f : X → Y) (xs : List X) (x : X) → Contains xs x → Contains (map f xs) (f x)
-Contains-map f [] x h = Contains-none x h
-Contains-map {X} {Y} f (y ∷ ys) x h = by (Contains-cases x y ys h) (Contains-map f ys x)
-  where
-    by : (x ≡ y) ⊎ Contains ys x → (Contains ys x → Contains (map f ys) (f x)) → Contains (f y ∷ map f ys) (f x)
-    by (inl e) rest = Contains-here (f x) (f y) (map f ys) (ap f e)
-    by (inr p) rest = Contains-there (f x) (f y) (map f ys) (rest p)
-
-pub Contains-from_map : {X Y : Type 0} (f : X → Y) (xs : List X) (y : Y) → Contains (map f xs) y → (x : X) × Contains xs x × (y ≡ f x)
-Contains-from_map f [] y h = Contains-none y h
-Contains-from_map {X} {Y} f (x ∷ xs) y h = by (Contains-cases y (f x) (map f xs) h) (Contains-from_map f xs y)
-  where
-    by : (y ≡ f x) ⊎ Contains (map f xs) y → (Contains (map f xs) y → (z : X) × Contains xs z × (y ≡ f z)) → (z : X) × Contains (x ∷ xs) z × (y ≡ f z)
-    by (inl e) rest = (x, Contains-here x x xs refl, e)
-    by (inr p) rest = let r = rest p in (r.0, Contains-there r.0 x xs r.1, r.2)
 
 pub pairs_map : {X Y : Type 0} (R : Y → Y → Type 0) (f : X → Y) (xs : List X) → AllPairs (λ v w. R (f v) (f w)) xs → AllPairs R (map f xs)
 pairs_map R f [] h = λ i j d less within. absurd (omega arith)

@@ -2,6 +2,7 @@
 use Rattle.std.proofs.Common.{◌≡◌, ◌≢◌, ◌∙◌, refl, sym, ap, subst, ◌⊎◌, inl, inr, ⊎_elim, ℕ, ◌+◌, ◌<◌, ◌≤◌, List, [], ◌∷◌, ◌++◌, length, map, Option, Some, None, arith}
 use Rattle.std.specs.Prelude.{All, AllPairs, Contains}
 use Rattle.std.proofs.lemmas.List.Elements.{All-contains, All-append, Contains-append_left, Contains-append_right, Contains-append_cases}
+use Rattle.ntfe_model.proofs.Lists.{Contains-map, Contains-from_map}
 use Rattle.ntfe_model.specs.Lists.{IsBelow}
 use Rattle.ntfe_model.specs.Shapes.{Shape}
 use Rattle.ntfe_model.specs.Keys.{IsKey, IsAfter, IsPruned, stem, last_number, item_limit}
@@ -19,7 +20,6 @@ use Rattle.choice_board.specs.declared.record.Found.{Found}
 use Rattle.choice_board.specs.declared.record.Found.TheVariants.{Class as FoundClass, Wide as FoundWide, Far as FoundFar}
 use Rattle.choice_board.proofs.KeyOrder.{not_below_itself}
 use Rattle.choice_board.proofs.PlaceLemmas.{under_in, padded, padded_under, below_raised, below_first, raised_length, length_snoc, stem_snoc, last_snoc, key_parts}
-use Rattle.choice_board.proofs.RowLemmas.{Contains-map, Contains-from_map}
 use Rattle.choice_board.proofs.Holders.{GivesWay, AreParts, news_of, told_if, news_are_parts, still_held, still_apart}
 
 -- ---- the key gives way to what the verdict brings

@@ -10,6 +10,7 @@ use Rattle.std.specs.Cmp.Lexicographic.{slice_cmp}
 use Rattle.std.proofs.lemmas.List.{take-append-le, take-take, get_or-take, get_or_append_left, length-take-le}
 use Rattle.std.proofs.lemmas.List.Elements.{All-contains}
 use Rattle.std.proofs.lemmas.Bool.Decides.{nat_tests}
+use Rattle.ntfe_model.proofs.Lists.{Contains-map, Contains-from_map}
 use Rattle.ntfe_model.specs.Lists.{IsBelow}
 use Rattle.ntfe_model.specs.declared.face.Face.{Face}
 use Rattle.ntfe_model.specs.declared.nogood.Nogood.{Nogood}
@@ -24,7 +25,7 @@ use Rattle.choice_board.specs.States.{waits, told, blocks, ends, IsSound}
 use Rattle.choice_board.specs.Starts.{key_past, start_keys, new_board}
 use Rattle.choice_board.proofs.KeyOrder.{below_at}
 use Rattle.choice_board.proofs.PlaceLemmas.{length_snoc, stem_snoc, last_snoc}
-use Rattle.choice_board.proofs.RowLemmas.{cut_at, Contains-map, Contains-from_map, pairs_map}
+use Rattle.choice_board.proofs.RowLemmas.{cut_at, pairs_map}
 use Rattle.choice_board.proofs.Holders.{HoldsOnce}
 
 -- ---- two lists of one length differ first at some place

@@ -3,6 +3,7 @@ use Rattle.std.proofs.Common.{◌≡◌, ◌≢◌, ◌∙◌, refl, sym, ap, su
 use Rattle.std.specs.Prelude.{All, AllPairs, Contains}
 use Rattle.std.proofs.lemmas.List.{take_all}
 use Rattle.std.proofs.lemmas.List.Elements.{All-contains, Contains-append_left, Contains-append_right, Contains-append_cases}
+use Rattle.ntfe_model.proofs.Lists.{pairs_first, pairs_across}
 use Rattle.ntfe_model.specs.Lists.{IsBelow}
 use Rattle.ntfe_model.specs.Shapes.{Shape}
 use Rattle.ntfe_model.specs.Choices.{IsChoice}
@@ -19,7 +20,6 @@ use Rattle.choice_board.specs.declared.record.Stop.{Stop}
 use Rattle.choice_board.specs.declared.totals.Totals.{Totals}
 use Rattle.choice_board.proofs.KeyOrder.{not_below_itself}
 use Rattle.choice_board.proofs.PlaceLemmas.{under_not_below, cone_not_below}
-use Rattle.choice_board.proofs.RowLemmas.{pairs_first, pairs_across}
 use Rattle.choice_board.proofs.SettleLemmas.{after_below}
 use Rattle.choice_board.proofs.Holders.{GivesWay, AreParts, one_part, still_held, still_apart}
 

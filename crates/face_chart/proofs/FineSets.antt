@@ -8,6 +8,7 @@ use Rattle.std.specs.List.{list_any}
 use Rattle.std.proofs.lemmas.Bool.Decides.{nat_tests}
 use Rattle.std.proofs.lemmas.List.Kept.{AllPairs-cons}
 use Rattle.std.proofs.lemmas.List.Elements.{All-contains}
+use Rattle.ntfe_nums.proofs.Tests.{same_from_test, both}
 use Rattle.ntfe_model.specs.Lists.{IsBefore2}
 use Rattle.ntfe_model.specs.Charts.{Patch, AreSteps, IsStep}
 use Rattle.ntfe_model.specs.Triangulations.{IsSide, IsFine}
@@ -33,10 +34,6 @@ either_false : (p q : Bool) → (p || q) ≡ false → (p ≡ false) × (q ≡ f
 either_false true q e = cc
 either_false false q e = (refl, e)
 
-and_true : (p q : Bool) → (p && q) ≡ true → (p ≡ true) × (q ≡ true)
-and_true true q e = (refl, e)
-and_true false q e = cc
-
 and_false : (p q : Bool) → (p && q) ≡ false → (p ≡ false) ⊎ (q ≡ false)
 and_false true q e = inr e
 and_false false q e = inl refl
@@ -47,15 +44,12 @@ lt_is x y e = grind (arith, nat_tests)
 not_lt : (x y : ℕ) → nat_lt x y ≡ false → y ≤ x
 not_lt x y e = grind (arith, nat_tests)
 
-eq_is : (x y : ℕ) → (x == y) ≡ true → x ≡ y
-eq_is x y e = grind (arith, nat_tests)
-
 not_eq : (x y : ℕ) → (x == y) ≡ false → x ≢ y
 not_eq x y e p = grind (arith, nat_tests)
 
 pub before_is : (e f : ℕ × ℕ) → is_before e f ≡ true → Earlier e f
 before_is e f h =
-    ⊎_elim (λ p. inl (lt_is e.0 f.0 p)) (λ p. (let q = and_true (e.0 == f.0) (nat_lt e.1 f.1) p in inr (eq_is e.0 f.0 q.0, lt_is e.1 f.1 q.1)))
+    ⊎_elim (λ p. inl (lt_is e.0 f.0 p)) (λ p. (let q = both (e.0 == f.0) (nat_lt e.1 f.1) p in inr (same_from_test e.0 f.0 q.0, lt_is e.1 f.1 q.1)))
     (either_true (nat_lt e.0 f.0) ((e.0 == f.0) && nat_lt e.1 f.1) h)
 
 numbers_before : (a b i j : ℕ) → i ≤ a → (a ≢ i) ⊎ (j ≤ b) → (a ≡ i → b ≡ j → ⊥) → IsBefore2 i j a b

@@ -1,4 +1,3 @@
-pub mod FlatLemmas
 pub mod PatchLemmas
 pub mod SpanLemmas
 pub mod FaceLemmas

@@ -1,17 +1,17 @@
 -- The points of a patch, found by their numbers.
 use Rattle.std.proofs.Common.{◌≡◌, ℕ, ◌-◌, ◌<◌, ◌≤◌, ◌⊎◌, inl, inr, ◌==◌, Bool, true, false, cond, refl, sym, ap, ◌∙◌, subst, arith, List, [], ◌∷◌, length, get_or}
-use Rattle.std.specs.Prelude.{All, Any, Contains}
+use Rattle.std.specs.Prelude.{All, Contains}
 use Rattle.std.proofs.lemmas.Bool.Decides.{nat_tests}
 use Rattle.std.proofs.lemmas.List.{get_or-map, get_or_read, length-map}
-use Rattle.std.proofs.lemmas.List.Elements.{All-contains, All-head, All-tail, Contains-get_or}
+use Rattle.std.proofs.lemmas.List.Elements.{All-contains, All-head, All-tail}
 use Rattle.ntfe_nums.specs.Vectors.{Vector, origin}
 use Rattle.ntfe_model.specs.Pairs.{IsSmall}
 use Rattle.ntfe_model.specs.Charts.{Patch, Spot, place, axes, spot_numbers, IsOf}
 use Rattle.ntfe_model.proofs.Listings.{Contains-cases, Contains-none, Contains-here, Contains-there}
-use Rattle.face_chart.specs.declared.flat.Flat.{Flat}
-use Rattle.face_chart.specs.Flats.{flat_of, IsSmallFlat}
+use Rattle.ntfe_model.specs.declared.flat.Flat.{Flat}
+use Rattle.ntfe_model.specs.Flats.{flat_of, IsSmallFlat}
 use Rattle.face_chart.specs.Tables.{patch, place_at, AreKnown, IsTable}
-use Rattle.face_chart.proofs.FlatLemmas.{small_flat}
+use Rattle.ntfe_model.proofs.FlatLemmas.{small_flat}
 
 pub numbers_back : (vs : List Vector) (ks : List ℕ) → spot_numbers (patch ks vs) ≡ ks
 numbers_back vs [] = refl
@@ -44,9 +44,6 @@ small_here ks vs i v k s l q =
     let r = k i 0 l in
     let P : Vector → Type 0 = IsSmall in
     subst P (sym q) (s (get_or ks i 0 - 1) v (let r0 = r.0 in let r1 = r.1 in omega arith))
-
-pub any_here : (P : ℕ → Type 0) (ks : List ℕ) (i : ℕ) → i < length ks → P (get_or ks i 0) → Any P ks
-any_here P ks i l p = let c = Contains-get_or ks i 0 l in (c.0, get_or ks i 0, c.1, c.2, p)
 
 -- each point of the patch stands in it with its place
 pub spot_in : (vs : List Vector) (ks : List ℕ) (a : ℕ) → Contains ks a → Contains (patch ks vs) (record { number = a; place = place_at vs a })

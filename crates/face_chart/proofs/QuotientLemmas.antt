@@ -1,10 +1,11 @@
 -- Quotients of small numbers.
-use Rattle.std.proofs.Common.{◌≡◌, ℕ, zero, suc, ◌+◌, ◌*◌, ◌<◌, ◌≤◌, ◌⊎◌, inl, inr, refl, sym, ap, ◌∙◌, subst, arith, ℤ, pos, negsuc, ◌+ℤ◌, ◌-ℤ◌, ◌*ℤ◌, ◌<ℤ◌, [], ◌∷◌, unsigned_abs, w64, to_z, of_z, FitsSigned, mul-le-mul}
+use Rattle.std.proofs.Common.{◌≡◌, ℕ, zero, suc, ◌+◌, ◌*◌, ◌<◌, ◌≤◌, ◌⊎◌, inl, inr, refl, sym, ap, ◌∙◌, subst, arith, ℤ, pos, ◌+ℤ◌, ◌-ℤ◌, ◌*ℤ◌, ◌<ℤ◌, [], ◌∷◌, unsigned_abs, w64, to_z, of_z, FitsSigned, mul-le-mul}
 use Rattle.std.specs.Int.RustNames.{int_div, int_rem}
 use Rattle.std.proofs.lemmas.Int.{ints, quot-rem, rem_below, unsigned_abs-mul, quot_is, quot_fits, fits_signed_from_abs}
 use Rattle.ntfe_nums.proofs.Ring.{ring}
 use Rattle.ntfe_nums.proofs.Ring.Expression.{var, minus, times}
 use Rattle.ntfe_nums.proofs.Machine.{back}
+use Rattle.ntfe_nums.proofs.Signs.{size_zero, positive_bits}
 
 small_factor : (n d : ℕ) → n * d < d → n ≡ 0
 small_factor zero d h = refl
@@ -23,9 +24,6 @@ size_nat q a r d h l = by (le_or q a)
         let n : a * 1 ≤ a * d = mul-le-mul (let k : a ≤ a = omega arith in k) (let k : 1 ≤ d = omega arith in k) in
         absurd (omega (arith, m, n, h, l))
 
-zero_size : (z : ℤ) → unsigned_abs z ≡ 0 → z ≡ pos 0
-zero_size z e = omega (arith, ints, e)
-
 positive_size : (d : ℤ) → pos 0 <ℤ d → 0 < unsigned_abs d
 positive_size d h = omega (arith, ints, h)
 
@@ -37,7 +35,7 @@ exact_quotient s d h =
     let e : (s -ℤ q) *ℤ d ≡ s *ℤ d -ℤ q *ℤ d = ring (s ∷ q ∷ d ∷ []) (times (minus (var 0) (var 1)) (var 2)) (minus (times (var 0) (var 2)) (times (var 1) (var 2))) refl in
     let f : (s -ℤ q) *ℤ d ≡ r = e ∙ rest (q *ℤ d) r (s *ℤ d) (quot-rem (s *ℤ d) d) in
     let z = small_factor (unsigned_abs (s -ℤ q)) (unsigned_abs d) (below _ _ _ (sym (unsigned_abs-mul (s -ℤ q) d) ∙ ap unsigned_abs f) (rem_below (s *ℤ d) d (positive_size d h))) in
-    same s q (zero_size (s -ℤ q) z)
+    same s q (size_zero (s -ℤ q) z)
   where
     rest : (x y z : ℤ) → x +ℤ y ≡ z → z -ℤ x ≡ y
     rest x y z g = omega (arith, ints, g)
@@ -66,10 +64,6 @@ quotient_size a d h =
 
 word_fits : (z : ℤ) → unsigned_abs z ≤ 16777216 → FitsSigned w64 z
 word_fits z s = fits_signed_from_abs w64 z (omega arith)
-
-positive_bits : (s : ℤ) → pos 0 <ℤ s → 0 < of_z w64 s
-positive_bits (pos n) h = omega (arith, ints)
-positive_bits (negsuc n) h = absurd (omega (arith, ints))
 
 module _ (a d : ℤ) (s : unsigned_abs a ≤ 16777216) (t : unsigned_abs d ≤ 16777216) (h : pos 0 <ℤ d) where
   pub quotient_fits : (0 < of_z w64 d) × FitsSigned w64 (int_div (to_z w64 (of_z w64 a)) (to_z w64 (of_z w64 d)))

@@ -4,6 +4,7 @@ use Rattle.std.proofs.lemmas.Int.{ints}
 use Rattle.ntfe_nums.specs.Vectors.{Vector, numbers, origin, vector_sum, difference, multiple, dot}
 use Rattle.ntfe_nums.proofs.Ring.{ring}
 use Rattle.ntfe_nums.proofs.Ring.Expression.{var, plus, minus, times}
+use Rattle.ntfe_nums.proofs.Signs.{no_difference}
 use Rattle.ntfe_model.specs.Charts.{IsOnSegment}
 use Rattle.ntfe_model.proofs.PlaneNumbers.{cancel, negative_product}
 
@@ -16,9 +17,6 @@ square (negsuc n) = refl
 no_square : (k : ℕ) (r : ℕ) → k * k + r ≡ 0 → k ≡ 0
 no_square zero r e = refl
 no_square (suc k) r e = absurd (omega arith)
-
-no_difference : (a b : ℤ) → b -ℤ a ≡ pos 0 → a ≡ b
-no_difference a b e = omega (arith, ints, e)
 
 pub total : Vector → ℕ
 total v = unsigned_abs v.x1 * unsigned_abs v.x1 + unsigned_abs v.x2 * unsigned_abs v.x2 + unsigned_abs v.x3 * unsigned_abs v.x3 + unsigned_abs v.x4 * unsigned_abs v.x4

@@ -1,34 +1,21 @@
 -- Whether some three points of a patch have an area.
-use Rattle.std.proofs.Common.{◌≡◌, ◌≢◌, ℕ, suc, Bool, true, false, not, refl, sym, ap, ◌∙◌, cond, arith, ℤ, pos, ◌+ℤ◌, List, [], ◌∷◌}
+use Rattle.std.proofs.Common.{◌≡◌, ◌≢◌, ℕ, suc, Bool, true, false, refl, sym, ap, ◌∙◌, cond, pos, ◌+ℤ◌, List, [], ◌∷◌}
 use Rattle.std.specs.Prelude.{All, Any, Contains}
 use Rattle.std.specs.List.{list_any}
-use Rattle.std.specs.Ordering.{int_eq}
-use Rattle.std.proofs.lemmas.Int.{ints}
-use Rattle.std.proofs.lemmas.Bool.Decides.{Decides-int_eq}
 use Rattle.std.proofs.lemmas.List.Elements.{All-contains}
-use Rattle.std.proofs.lemmas.List.Folds.{list_any_none, list_any_at}
+use Rattle.std.proofs.lemmas.List.Folds.{list_any_none}
 use Rattle.ntfe_nums.specs.Vectors.{Vector, coordinate, area}
 use Rattle.ntfe_nums.proofs.Ring.{Expression, ring}
 use Rattle.ntfe_nums.proofs.Ring.Expression.{var, plus, minus, times}
+use Rattle.ntfe_nums.proofs.Tests.{zero_fails, other_passes}
+use Rattle.ntfe_nums.proofs.Signs.{no_sum}
+use Rattle.ntfe_model.proofs.Lists.{any_true}
 use Rattle.ntfe_model.specs.Charts.{Patch, Spot, spans, axes}
 use Rattle.ntfe_model.proofs.Listings.{All-from_contains}
 use Rattle.face_chart.specs.Tables.{patch, place_at}
-use Rattle.face_chart.specs.declared.flat.Flat.{Flat}
-use Rattle.face_chart.specs.Flats.{flat_of, area_of_flats}
+use Rattle.ntfe_model.specs.declared.flat.Flat.{Flat}
+use Rattle.ntfe_model.specs.Flats.{flat_of, area_of_flats}
 use Rattle.face_chart.proofs.PatchLemmas.{spot_in, spot_from}
-
-zero_test : (z : ℤ) → z ≡ pos 0 → not (int_eq z (pos 0)) ≡ false
-zero_test z e = ap (λ y. not (int_eq y (pos 0))) e
-
-other_test : (z : ℤ) → z ≢ pos 0 → not (int_eq z (pos 0)) ≡ true
-other_test z ne = by (int_eq z (pos 0)) (Decides-int_eq z (pos 0)).0
-  where
-    by : (b : Bool) → (b ≡ true → z ≡ pos 0) → not b ≡ true
-    by true f = absurd (ne (f refl))
-    by false f = refl
-
-any_true : {X : Type 0} (p : X → Bool) (xs : List X) (x : X) → Contains xs x → p x ≡ true → list_any p xs ≡ true
-any_true p xs x c e = list_any_at p xs c.0 x c.1 (ap p c.2 ∙ e)
 
 abbrev areaE : ℕ → ℕ → ℕ → Expression
 areaE a b c = minus (times (minus (var b) (var a)) (minus (var (suc c)) (var (suc a)))) (times (minus (var (suc b)) (var (suc a))) (minus (var c) (var a)))
@@ -39,18 +26,15 @@ area_split q o a b c =
     ring (coordinate q.0 o ∷ coordinate q.1 o ∷ coordinate q.0 a ∷ coordinate q.1 a ∷ coordinate q.0 b ∷ coordinate q.1 b ∷ coordinate q.0 c ∷ coordinate q.1 c ∷ [])
     (areaE 2 4 6) (plus (plus (areaE 0 2 4) (areaE 0 4 6)) (areaE 0 6 2)) refl
 
-no_sum : (x y z : ℤ) → x ≡ pos 0 → y ≡ pos 0 → z ≡ pos 0 → x +ℤ y +ℤ z ≡ pos 0
-no_sum x y z e f g = omega (arith, ints, e, f, g)
-
 pub spans_true : (ks : List ℕ) (vs : List Vector) (q : ℕ × ℕ) (a b c : ℕ) → Contains ks a → Contains ks b → Contains ks c
     → area q (place_at vs a) (place_at vs b) (place_at vs c) ≢ pos 0 → spans (patch ks vs) q ≡ true
 spans_true ks vs q a b c i j k ne =
-    any_true _ (patch ks vs) _ (spot_in vs ks a i) (any_true _ (patch ks vs) _ (spot_in vs ks b j) (any_true _ (patch ks vs) _ (spot_in vs ks c k) (other_test (area q (place_at vs a) (place_at vs b) (place_at vs c)) ne)))
+    any_true _ (patch ks vs) _ (spot_in vs ks a i) (any_true _ (patch ks vs) _ (spot_in vs ks b j) (any_true _ (patch ks vs) _ (spot_in vs ks c k) (other_passes (area q (place_at vs a) (place_at vs b) (place_at vs c)) ne)))
 
 pub spans_false : (ks : List ℕ) (vs : List Vector) (q : ℕ × ℕ) (o : Vector)
     → ((a b : ℕ) → Contains ks a → Contains ks b → area q o (place_at vs a) (place_at vs b) ≡ pos 0) → spans (patch ks vs) q ≡ false
 spans_false ks vs q o flat =
-    none _ (λ a i. none _ (λ b j. none _ (λ c k. zero_test (area q a.place b.place c.place) (area_split q o a.place b.place c.place ∙ no_sum _ _ _ (at a b i j) (at b c j k) (at c a k i)))))
+    none _ (λ a i. none _ (λ b j. none _ (λ c k. zero_fails (area q a.place b.place c.place) (area_split q o a.place b.place c.place ∙ no_sum _ _ _ (at a b i j) (at b c j k) (at c a k i)))))
   where
     none : (p : Spot → Bool) → ((s : Spot) → Contains (patch ks vs) s → p s ≡ false) → list_any p (patch ks vs) ≡ false
     none p h = list_any_none p (patch ks vs) (All-from_contains (λ s. p s ≡ false) (patch ks vs) h)

@@ -11,24 +11,18 @@ use Rattle.ntfe_model.specs.Words.{is_same_step, is_before, with_step, after_sid
 use Rattle.ntfe_model.specs.declared.triangle.Triangle.{Triangle}
 use Rattle.ntfe_model.proofs.Listings.{Contains-here, Contains-there, Contains-cases, Contains-none, Contains-filter}
 use Rattle.std.proofs.lemmas.List.Elements.{All-contains}
+use Rattle.ntfe_nums.proofs.Tests.{same_from_test, both}
 use Rattle.ntfe_model.proofs.Triples.{Decided, decide_side, decide_is_side, decide_triple_of, side_same, same_back, corner_same, side_of_triple_of, none_paired}
 
 -- ---- steps that are the same
-
-pub both_true : (p q : Bool) → (p && q) ≡ true → (p ≡ true) × (q ≡ true)
-both_true true q e = (refl, e)
-both_true false q e = cc
-
-pub same_number : (x y : ℕ) → (x == y) ≡ true → x ≡ y
-same_number x y e = grind (arith, nat_tests)
 
 pub number_same : (x y : ℕ) → x ≡ y → (x == y) ≡ true
 number_same x y e = grind (arith, nat_tests)
 
 pub same_step_is : (e f : ℕ × ℕ) → is_same_step e f ≡ true → e ≡ f
 same_step_is e f h =
-    let b = both_true (e.0 == f.0) (e.1 == f.1) h in
-    let p = same_number e.0 f.0 b.0 in let q = same_number e.1 f.1 b.1 in
+    let b = both (e.0 == f.0) (e.1 == f.1) h in
+    let p = same_from_test e.0 f.0 b.0 in let q = same_from_test e.1 f.1 b.1 in
     λ i. (p i, q i)
 
 not_false : (b : Bool) → (b ≡ true → ⊥) → not b ≡ true

@@ -1,4 +1,3 @@
-pub mod Flats
 pub mod Steps
 pub mod Tables
 pub mod Units

@@ -3,8 +3,8 @@ use Rattle.std.specs.Prelude.{◌≡◌, ℕ, ◌-◌, ◌≤◌, List, length, 
 use Rattle.ntfe_nums.specs.Vectors.{Vector, origin}
 use Rattle.ntfe_model.specs.Pairs.{IsSmall}
 use Rattle.ntfe_model.specs.Charts.{Patch, axes}
-use Rattle.face_chart.specs.Flats.{flat_of}
-use Rattle.face_chart.specs.declared.flat.Flat.{Flat}
+use Rattle.ntfe_model.specs.Flats.{flat_of}
+use Rattle.ntfe_model.specs.declared.flat.Flat.{Flat}
 
 -- the place of the point with this number, counted from 1
 abbrev pub place_at : List Vector → ℕ → Vector

@@ -2,7 +2,6 @@
 #![tactic(auto)]
 
 mod charts;
-mod flat;
 mod made;
 mod segment;
 mod span;

@@ -3,11 +3,10 @@ ghost use Rattle.std.specs.Prelude.{◌≡◌, ◌≢◌, ◌<◌, ◌≤◌, po
 ghost use Rattle.ntfe_nums.specs.Vectors.{area, origin};
 ghost use Rattle.ntfe_model.specs.Pairs.{IsSmall};
 ghost use Rattle.ntfe_model.specs.Charts.{axes, spans as spans_patch};
-ghost use Rattle.face_chart.specs.Flats.{AreAxes, flat_of, IsSmallFlat, area_of_flats};
+ghost use Rattle.ntfe_model.specs.Flats.{AreAxes, flat_of, IsSmallFlat, area_of_flats};
 ghost use Rattle.face_chart.specs.Tables.{patch, AreKnown, place_at};
 
-use crate::flat::{Flat, flat_area, flatten};
-use ntfe_model::Vec4;
+use ntfe_model::{Flat, Vec4, flat_area, flatten};
 
 /// Whether some point of the list has an area with the two points.
 fn has_third(numbers: &[u32], places: &[Vec4], axes: (usize, usize), a: &Flat, b: &Flat) -> bool

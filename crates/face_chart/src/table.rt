@@ -5,9 +5,8 @@ ghost use Rattle.ntfe_model.specs.Pairs.{IsSmall};
 ghost use Rattle.ntfe_model.specs.Charts.{spot_numbers, IsOf, place, axes};
 ghost use Rattle.face_chart.specs.Tables.{patch, AreKnown};
 
-use crate::flat::{Flat, flat_area, flatten};
 use crate::span::axes_of;
-use ntfe_model::Vec4;
+use ntfe_model::{Flat, Vec4, flat_area, flatten};
 use std::alloc::{AllocError, Global};
 use std::marker::Model;
 

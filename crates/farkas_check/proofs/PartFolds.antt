@@ -4,7 +4,7 @@ use Rattle.ntfe_nums.specs.Vectors.{vector_sum, multiple}
 use Rattle.ntfe_model.specs.Shapes.{Shape, IsShape}
 use Rattle.ntfe_model.specs.Charts.{Patch, patch_at, place, IsOf}
 use Rattle.ntfe_model.specs.Words.{IsItem}
-use Rattle.ntfe_model.specs.Choices.{IsFoldOf}
+use Rattle.ntfe_model.specs.Choices.{IsFoldOf, IsSmallFold}
 use Rattle.ntfe_model.specs.declared.triangulation.Triangulation.{Triangulation}
 use Rattle.ntfe_model.specs.declared.nogood.Fold.{Fold}
 use Rattle.ntfe_model.specs.declared.nogood.Part.{Part}
@@ -12,7 +12,7 @@ use Rattle.ntfe_model.proofs.Folds.{unit_corner}
 use Rattle.ntfe_model.proofs.FoldSizes.{fold_small}
 use Rattle.ntfe_model.proofs.GeometryPoints.{point_within, point_place, point_small, geometry_place_small}
 use Rattle.ntfe_model.proofs.Items.{item_fixed}
-use Rattle.farkas_check.specs.Folds.{HasThirds, IsSmallPoint, HasSmallPoints, IsSmallFold, IsBalanced}
+use Rattle.farkas_check.specs.Folds.{HasThirds, IsSmallPoint, HasSmallPoints, IsBalanced}
 use Rattle.farkas_check.specs.Parts.{IsFoldOfPart}
 
 -- the four points of a form are points of the patch

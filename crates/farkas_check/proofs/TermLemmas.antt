@@ -8,7 +8,7 @@ use Rattle.ntfe_model.specs.Certificates.{IsTermOf, IsCertificate, total_coeffic
 use Rattle.ntfe_model.specs.declared.nogood.Part.{Part}
 use Rattle.ntfe_model.specs.declared.nogood.Term.{Term}
 use Rattle.ntfe_model.specs.declared.nogood.Nogood.{Nogood}
-use Rattle.farkas_check.specs.Folds.{IsSmallFold}
+use Rattle.ntfe_model.specs.Choices.{IsSmallFold}
 use Rattle.farkas_check.specs.Parts.{HasItemOf, IsFoldOfPart}
 use Rattle.farkas_check.proofs.PartFolds.{fold_factors}
 

@@ -1,5 +1,5 @@
 -- The parts of a fold.
-use Rattle.std.specs.Prelude.{◌≡◌, ℕ, ◌≤◌, ◌⊎◌, unsigned_abs, List, Contains}
+use Rattle.std.specs.Prelude.{◌≡◌, ℕ, ◌⊎◌, List, Contains}
 use Rattle.ntfe_nums.specs.Vectors.{vector_sum, multiple}
 use Rattle.ntfe_model.specs.Lists.{IsNumberOf}
 use Rattle.ntfe_model.specs.Pairs.{IsSmall}
@@ -28,10 +28,6 @@ pub record HasSmallPoints (xs : List Point) (r : Fold) : Type 0 where
   pub b : IsSmallPoint xs r.b
   pub c : IsSmallPoint xs r.c
   pub d : IsSmallPoint xs r.d
-
--- the factors of the fold are small
-abbrev pub IsSmallFold : Fold → Type 0
-IsSmallFold r = (unsigned_abs r.alpha ≤ 4094) × (unsigned_abs r.beta ≤ 4094)
 
 -- c + d = alpha a + beta b, at the places of the points
 abbrev pub IsBalanced : List Point → Fold → Type 0

@@ -2,7 +2,8 @@
 ghost use Rattle.std.specs.Prelude.{◌≡◌, ◌≤◌, true, false, length, unsigned_abs};
 ghost use Rattle.ntfe_nums.specs.Vectors.{vector_sum, multiple};
 ghost use Rattle.ntfe_model.specs.Pairs.{IsSmall};
-ghost use Rattle.farkas_check.specs.Folds.{IsSmallFold, HasSmallPoints, IsBalanced};
+ghost use Rattle.ntfe_model.specs.Choices.{IsSmallFold};
+ghost use Rattle.farkas_check.specs.Folds.{HasSmallPoints, IsBalanced};
 
 use ntfe_model::{Fold, Point, Vec4};
 

@@ -1,6 +1,6 @@
 //! Whether a form is a fold of an item.
 ghost use Rattle.std.specs.Prelude.{◌≡◌, ◌≤◌, ℕ, true, false, unsigned_abs};
-ghost use Rattle.farkas_check.specs.Folds.{IsSmallFold};
+ghost use Rattle.ntfe_model.specs.Choices.{IsSmallFold};
 ghost use Rattle.farkas_check.specs.Parts.{KeepsPart, IsFoldOfPart};
 
 use crate::balance::is_balanced;

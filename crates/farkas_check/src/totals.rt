@@ -1,7 +1,7 @@
 //! Whether the terms cancel at every point.
 ghost use Rattle.std.specs.Prelude.{◌≡◌, ◌+◌, ◌^◌, ◌<◌, ◌≤◌, ℕ, true, false, pos, ◌*ℤ◌, length, unsigned_abs, All};
 ghost use Rattle.ntfe_model.specs.Certificates.{where_equal, fold_coefficient, total_coefficient};
-ghost use Rattle.farkas_check.specs.Folds.{IsSmallFold};
+ghost use Rattle.ntfe_model.specs.Choices.{IsSmallFold};
 
 use ntfe_model::{Fold, Term};
 

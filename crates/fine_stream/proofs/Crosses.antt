@@ -6,11 +6,12 @@ use Rattle.std.proofs.lemmas.Int.{ints}
 use Rattle.ntfe_nums.specs.Vectors.{Vector, numbers, coordinate, multiple, area, sign}
 use Rattle.ntfe_nums.proofs.Ring.{Expression, ring}
 use Rattle.ntfe_nums.proofs.Ring.Expression.{var, num, plus, minus, times, neg}
+use Rattle.ntfe_nums.proofs.Signs.{positive_product, product_zero}
 use Rattle.ntfe_model.specs.Charts.{Patch, axes, place, reached, turn, IsOf, IsUnit}
 use Rattle.ntfe_model.specs.Triangulations.{DoCross, mixed, IsEndOf, HaveSameEnds}
 use Rattle.ntfe_model.specs.Charts.{AreApart}
 use Rattle.fine_stream.specs.Paths.{AreOpposite}
-use Rattle.ntfe_model.proofs.PlaneNumbers.{zero_factor, cancel, sign_positive, sign_negative, positive_product, negative_product, area_turn, area_second, area_third, area_multiple, flat_last, flat_outer}
+use Rattle.ntfe_model.proofs.PlaneNumbers.{zero_factor, cancel, sign_positive, sign_negative, negative_product, area_turn, area_second, area_third, area_multiple, flat_last, flat_outer}
 use Rattle.ntfe_model.proofs.UnitTriples.{area_of, unit_area, unit_areas, reached_first, reached_second}
 use Rattle.ntfe_model.proofs.Folds.{unit_three}
 
@@ -18,9 +19,6 @@ use Rattle.ntfe_model.proofs.Folds.{unit_three}
 
 abbrev at : ℕ → Vector → ℤ
 at i v = get_or (numbers v) i (pos 0)
-
-product_zero : (k : ℤ) → k *ℤ pos 0 ≡ pos 0
-product_zero k = omega (arith, ints)
 
 at_mixed : (i n s : ℕ) (a b : Vector) → at i (mixed n s a b) ≡ (pos n -ℤ pos s) *ℤ at i a +ℤ pos s *ℤ at i b
 at_mixed zero n s a b = refl

@@ -3,13 +3,13 @@
 --     part_more, part_left, part_next      one triple more, the triples before, and the next one
 use Rattle.std.proofs.Common.{◌≡◌, ℕ, zero, suc, ◌+◌, ◌<◌, ◌≤◌, inl, inr, ⊎_elim, refl, sym, ap, ◌∙◌, subst, arith, List, [], ◌∷◌, ◌++◌, length, drop, get_or}
 use Rattle.std.proofs.Math.Seq.{drop-length}
-use Rattle.std.specs.Prelude.{All, AllPairs, Contains}
+use Rattle.std.specs.Prelude.{All, Contains}
 use Rattle.ntfe_model.specs.Charts.{Patch, turn, IsUnit}
 use Rattle.ntfe_model.specs.Triangulations.{HasSide}
 use Rattle.ntfe_model.specs.declared.triangle.Triangle.{Triangle}
-use Rattle.ntfe_model.proofs.Listings.{Contains-here, Contains-cases, Contains-none, AllPairs-head, AllPairs-tail, AllPairs-append, All-from_contains}
+use Rattle.ntfe_model.proofs.Listings.{Contains-here, Contains-cases, Contains-none, AllPairs-append, All-from_contains}
 use Rattle.std.proofs.lemmas.List.Elements.{All-contains, All-cons, Contains-append_cases, Contains-append_left, Contains-append_right}
-use Rattle.std.proofs.lemmas.List.Kept.{AllPairs-cons}
+use Rattle.ntfe_model.proofs.Lists.{pairs_first, pairs_across}
 use Rattle.ntfe_model.specs.Charts.{AreApart}
 use Rattle.ntfe_model.proofs.UnitTriples.{unit_turn}
 use Rattle.fine_stream.specs.Paths.{AreOpposite, IsUnitSide, AreInConflict, AreCompatible, IsPart}
@@ -79,30 +79,18 @@ part_more h ts t p u all = record {
       (λ v z k l. let P : Triangle → Type 0 = λ w. AreCompatible h v w in subst P (sym (single_contains z t l)) (All-contains (λ w. AreCompatible h w t) ts v all k));
 }
 
-pub AllPairs-left : {X : Type 0} (R : X → X → Type 0) (xs ys : List X) → AllPairs R (xs ++ ys) → AllPairs R xs
-AllPairs-left R [] ys p = λ i j d k l. absurd (omega arith)
-AllPairs-left R (x ∷ xs) ys p =
-    AllPairs-cons R x xs (All-from_contains (R x) xs (λ y k. All-contains (R x) (xs ++ ys) y (AllPairs-head R x (xs ++ ys) p) (Contains-append_left xs ys y k)))
-    (AllPairs-left R xs ys (AllPairs-tail R x (xs ++ ys) p))
-
-pub AllPairs-across : {X : Type 0} (R : X → X → Type 0) (xs ys : List X) → AllPairs R (xs ++ ys) → (x y : X) → Contains xs x → Contains ys y → R x y
-AllPairs-across R [] ys p x y k l = Contains-none x k
-AllPairs-across R (z ∷ zs) ys p x y k l =
-    ⊎_elim (λ e. let P = λ (w : _). R w y in subst P (sym e) (All-contains (R z) (zs ++ ys) y (AllPairs-head R z (zs ++ ys) p) (Contains-append_right zs ys y l)))
-    (λ m. AllPairs-across R zs ys (AllPairs-tail R z (zs ++ ys) p) x y m l) (Contains-cases x z zs k)
-
 -- the triples before
 pub part_left : (h : Patch) (ts us : List Triangle) → IsPart h (ts ++ us) → IsPart h ts
 part_left h ts us p = record {
   unit = All-from_contains (λ v. IsUnit h v.a v.b v.c) ts (λ v k. All-contains (λ v. IsUnit h v.a v.b v.c) (ts ++ us) v p.unit (Contains-append_left ts us v k));
-  compatible = AllPairs-left (AreCompatible h) ts us p.compatible;
+  compatible = pairs_first (AreCompatible h) ts us p.compatible;
 }
 
 -- the next triple
 pub part_next : (h : Patch) (ts : List Triangle) (t : Triangle) → IsPart h (ts ++ t ∷ []) → IsUnit h t.a t.b t.c × All (λ u. AreCompatible h u t) ts
 part_next h ts t p = (
   All-contains (λ v. IsUnit h v.a v.b v.c) (ts ++ t ∷ []) t p.unit (Contains-append_right ts (t ∷ []) t (Contains-here t t [] refl)),
-  All-from_contains (λ u. AreCompatible h u t) ts (λ u k. AllPairs-across (AreCompatible h) ts (t ∷ []) p.compatible u t k (Contains-here t t [] refl)),
+  All-from_contains (λ u. AreCompatible h u t) ts (λ u k. pairs_across (AreCompatible h) ts (t ∷ []) p.compatible u t k (Contains-here t t [] refl)),
 )
 
 -- ---- from the last triple on

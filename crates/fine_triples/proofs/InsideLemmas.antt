@@ -4,6 +4,7 @@ use Rattle.std.proofs.lemmas.Int.{ints}
 use Rattle.ntfe_nums.specs.Vectors.{Vector, difference, multiple}
 use Rattle.ntfe_nums.proofs.Ring.{ring, product_comm}
 use Rattle.ntfe_nums.proofs.Ring.Expression.{var, num, plus, minus, times}
+use Rattle.ntfe_nums.proofs.Signs.{no_difference}
 use Rattle.ntfe_model.specs.Triangulations.{mixed}
 use Rattle.ntfe_model.proofs.PlaneNumbers.{zero_factor, cancel}
 use Rattle.face_chart.proofs.SegmentLemmas.{mix_number}
@@ -11,9 +12,6 @@ use Rattle.ntfe_model.proofs.Triples.{Decided, decide_number}
 use Rattle.fine_triples.specs.Meetings.{IsInside}
 
 -- ---- numbers and vectors
-
-pub no_difference : (a b : ℤ) → b -ℤ a ≡ pos 0 → a ≡ b
-no_difference a b e = omega (arith, ints, e)
 
 pub nothing : (s : ℤ) (a b : ℤ) → s ≢ pos 0 → s *ℤ (b -ℤ a) ≡ pos 0 → a ≡ b
 nothing s a b h e = ⊎_elim (λ p. absurd (h p)) (λ q. no_difference a b q) (zero_factor s (b -ℤ a) e)

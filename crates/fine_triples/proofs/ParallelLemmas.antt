@@ -4,10 +4,11 @@ use Rattle.std.proofs.lemmas.Int.{ints}
 use Rattle.ntfe_nums.specs.Vectors.{Vector, origin, difference, multiple, dot}
 use Rattle.ntfe_nums.proofs.Ring.{ring}
 use Rattle.ntfe_nums.proofs.Ring.Expression.{var, num, plus, minus, times, neg}
+use Rattle.ntfe_nums.proofs.Signs.{no_difference}
 use Rattle.ntfe_model.proofs.PlaneNumbers.{negative_product}
 use Rattle.face_chart.proofs.SegmentLemmas.{total, square_is, total_none, apart_total}
 use Rattle.fine_triples.specs.Meetings.{IsInside, HasInsideEnd, AreOneSegment, DoMeetInside, gram}
-use Rattle.fine_triples.proofs.InsideLemmas.{no_difference, nothing, same4, inside_from, inside_turn}
+use Rattle.fine_triples.proofs.InsideLemmas.{nothing, same4, inside_from, inside_turn}
 use Rattle.fine_triples.proofs.CrossLemmas.{meet_turn, meet_swap}
 
 -- ---- the square of a vector

@@ -4,7 +4,8 @@ use Rattle.std.proofs.lemmas.Int.{ints}
 use Rattle.ntfe_nums.specs.Vectors.{Vector, numbers, vector_sum, difference, multiple, dot}
 use Rattle.ntfe_nums.proofs.Ring.{ring, product_comm}
 use Rattle.ntfe_nums.proofs.Ring.Expression.{var, num, plus, minus, times}
-use Rattle.ntfe_model.proofs.PlaneNumbers.{cancel, positive_product, positive_factor}
+use Rattle.ntfe_nums.proofs.Signs.{positive_product}
+use Rattle.ntfe_model.proofs.PlaneNumbers.{cancel, positive_factor}
 use Rattle.fine_triples.specs.Meetings.{DoMeetInside, gram, first_share, second_share}
 use Rattle.fine_triples.proofs.InsideLemmas.{same4}
 use Rattle.fine_triples.proofs.ParallelLemmas.{gram_positive, meet_number}

@@ -6,7 +6,7 @@ use Rattle.std.proofs.lemmas.List.Elements.{All-cons, All-nil, All-append, All-c
 use Rattle.ntfe_model.specs.Lists.{IsBefore2}
 use Rattle.ntfe_model.specs.Charts.{Patch, spot_numbers, IsOf}
 use Rattle.ntfe_model.specs.Triangulations.{HasSide, IsFine}
-use Rattle.ntfe_model.specs.Choices.{IsInnerEdge, AreOpposite, IsFoldOf, AreFolds, IsRegularBy, fold_value}
+use Rattle.ntfe_model.specs.Choices.{IsInnerEdge, AreOpposite, IsFoldOf, AreFolds, IsRegularBy, fold_value, IsSmallFold}
 use Rattle.ntfe_model.specs.declared.triangle.Triangle.{Triangle}
 use Rattle.ntfe_model.specs.declared.triangulation.Triangulation.{Triangulation}
 use Rattle.ntfe_model.specs.declared.nogood.Fold.{Fold}
@@ -15,7 +15,7 @@ use Rattle.ntfe_model.specs.Charts.{AreApart}
 use Rattle.face_chart.proofs.StepLemmas.{taken_more, taken_kept, taken_last, taken_below}
 use Rattle.ntfe_model.proofs.Triples.{third_point}
 use Rattle.ntfe_model.proofs.Folds.{unit_corner, fold_edge, fold_unique}
-use Rattle.fold_rows.specs.Rows.{IsSmallFold, HasPoint, AreAround, AreUnits, unspelled, AddsFolds}
+use Rattle.fold_rows.specs.Rows.{HasPoint, AreAround, AreUnits, unspelled, AddsFolds}
 use Rattle.ntfe_model.proofs.FoldPlanes.{AreFoldsPositive, folds_give_above, above_gives_folds}
 
 abbrev before : Fold → Fold → Type 0

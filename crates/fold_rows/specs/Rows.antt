@@ -1,17 +1,13 @@
 -- The parts of a fold, and how the list of the folds is made.
-use Rattle.std.specs.Prelude.{◌≡◌, ℕ, ◌<◌, ◌≤◌, ◌⊎◌, ℤ, pos, ◌+ℤ◌, ◌-ℤ◌, ◌*ℤ◌, slice_index_or, unsigned_abs, List, [], ◌++◌, All, Contains}
+use Rattle.std.specs.Prelude.{◌≡◌, ℕ, ◌<◌, ◌≤◌, ◌⊎◌, ℤ, pos, ◌+ℤ◌, ◌-ℤ◌, ◌*ℤ◌, slice_index_or, List, [], ◌++◌, All, Contains}
 use Rattle.ntfe_nums.specs.Vectors.{Vector, vector_sum, multiple}
 use Rattle.ntfe_model.specs.Lists.{IsListing, IsBefore2}
 use Rattle.ntfe_model.specs.Charts.{Patch, place, IsUnit}
 use Rattle.ntfe_model.specs.Triangulations.{IsRotationOf}
-use Rattle.ntfe_model.specs.Choices.{IsFoldOf}
+use Rattle.ntfe_model.specs.Choices.{IsFoldOf, IsSmallFold}
 use Rattle.ntfe_model.specs.declared.triangle.Triangle.{Triangle}
 use Rattle.ntfe_model.specs.declared.triangulation.Triangulation.{Triangulation}
 use Rattle.ntfe_model.specs.declared.nogood.Fold.{Fold}
-
--- the factors of the fold are small
-abbrev pub IsSmallFold : Fold → Type 0
-IsSmallFold r = (unsigned_abs r.alpha ≤ 4094) × (unsigned_abs r.beta ≤ 4094)
 
 -- a is a corner of the triple
 abbrev pub HasPoint : Triangle → ℕ → Type 0

@@ -3,8 +3,8 @@ ghost use Rattle.std.specs.Prelude.{◌≡◌, ◌≢◌, ◌<◌, ◌↔◌, �
 ghost use mathlib.Core.List.{List as Items};
 ghost use Rattle.ntfe_model.specs.Charts.{spot_numbers, IsOf, place};
 ghost use Rattle.ntfe_model.specs.Triangulations.{IsFine};
-ghost use Rattle.ntfe_model.specs.Choices.{IsInnerEdge, IsFoldOf, AreFolds, IsRegularBy, fold_value};
-ghost use Rattle.fold_rows.specs.Rows.{IsSmallFold, AreBalanced, AreUnits, unspelled, IsFoldBetween, AddsFolds};
+ghost use Rattle.ntfe_model.specs.Choices.{IsInnerEdge, IsFoldOf, AreFolds, IsRegularBy, fold_value, IsSmallFold};
+ghost use Rattle.fold_rows.specs.Rows.{AreBalanced, AreUnits, unspelled, IsFoldBetween, AddsFolds};
 
 use crate::factor::factor;
 use crate::sides::{around, third_point};

@@ -3,12 +3,12 @@ use Rattle.std.proofs.Common.{◌≡◌, ℕ, ◌+◌, ◌<◌, ◌≤◌, ◌�
 use Rattle.std.proofs.Common.{Bool, true, false, cond}
 use Rattle.std.specs.Prelude.{All, Any, ◌<ℤ◌, ◌↔◌, int_lt}
 use Rattle.std.specs.Int.{int_min, int_max}
-use Rattle.lattice_points.proofs.CutLemmas.{below_from_test, least_from_test}
 use Rattle.std.proofs.lemmas.Int.{ints}
 use Rattle.std.proofs.lemmas.List.Elements.{All-weaker, All-more, All-contains}
 use lib.Signed.{≤ℤ_refl}
 use Rattle.ntfe_nums.specs.Vectors.{Vector, coordinate}
 use Rattle.ntfe_nums.specs.Sizes.{AreWithin}
+use Rattle.ntfe_nums.proofs.Tests.{least_from_test, below_from_test}
 use Rattle.ntfe_model.specs.Pairs.{VertexLists, IsSmall}
 use Rattle.ntfe_model.specs.Points.{IsInside, IsBoxSide, AreColumns}
 use Rattle.lattice_points.specs.Faults.{HasFewColumns, HasColumnsOver}

@@ -9,26 +9,18 @@ use Rattle.ntfe_nums.proofs.Ring.{Expression, ring, right_sum, product_one}
 use Rattle.ntfe_nums.proofs.Ring.Expression.{var, num, plus, minus, times}
 use Rattle.ntfe_nums.proofs.Machine.{machine, raw, exact, fits, back}
 use Rattle.ntfe_nums.specs.Sizes.{AreWithin}
+use Rattle.ntfe_nums.proofs.Tests.{least_from_test, below_from_test}
+use Rattle.ntfe_nums.proofs.Signs.{positive_bits}
 use Rattle.lattice_points.specs.declared.bounds.Extent.{Extent}
 use Rattle.lattice_points.specs.Boxes.{IsWithin}
 
 -- ---- what tests say
-
-pub below_from_test : (a b : ℤ) → lt_z a b ≡ true → a <ℤ b
-below_from_test a b h = grind (arith, ints)
-
-pub least_from_test : (a b : ℤ) → lt_z a b ≡ false → b ≤ℤ a
-least_from_test a b h = grind (arith, ints)
 
 pub rising_from_test : (s : ℤ) → FitsSigned w64 s → lt_z (pos 0) (to_z w64 (of_z w64 s)) ≡ true → pos 0 <ℤ s
 rising_from_test s f h = below_from_test (pos 0) s (let P : ℤ → Type 0 = λ y. lt_z (pos 0) y ≡ true in subst P (to_z-of_z f) h)
 
 pub flat_from_test : (s : ℤ) → FitsSigned w64 s → lt_z (pos 0) (to_z w64 (of_z w64 s)) ≡ false → s ≤ℤ pos 0
 flat_from_test s f h = least_from_test (pos 0) s (let P : ℤ → Type 0 = λ y. lt_z (pos 0) y ≡ false in subst P (to_z-of_z f) h)
-
-positive_bits : (s : ℤ) → pos 0 <ℤ s → 0 < of_z w64 s
-positive_bits (pos n) h = omega (arith, ints)
-positive_bits (negsuc n) h = absurd (omega (arith, ints))
 
 -- a positive number is a divisor
 pub divides : (z s : ℤ) → z ≡ s → pos 0 <ℤ s → 0 < of_z w64 z

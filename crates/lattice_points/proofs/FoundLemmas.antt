@@ -2,18 +2,15 @@
 use Rattle.std.proofs.Common.{◌≡◌, ℕ, ◌+◌, ◌-◌, ◌<◌, ◌≤◌, Bool, true, false, cond, refl, sym, ap, ◌∙◌, arith, List, [], ◌∷◌, ◌++◌, length, get_or}
 use Rattle.std.specs.Prelude.{filter}
 use Rattle.std.specs.List.{range_with_len}
-use Rattle.std.proofs.lemmas.List.{map-id, append-nil}
-use Rattle.std.proofs.lemmas.List.FromFn.{map-range_with_len_more}
+use Rattle.std.proofs.lemmas.List.{append-nil}
 use Rattle.std.proofs.lemmas.List.Elements.{filter-append, All-cons, All-nil}
 use Rattle.ntfe_nums.specs.Vectors.{Vector, origin, Precedes}
+use Rattle.ntfe_model.proofs.Lists.{range_more}
 use Rattle.ntfe_model.specs.Lists.{IsListing}
 use Rattle.ntfe_model.specs.Pairs.{VertexLists, entry}
 use Rattle.ntfe_model.specs.Points.{IsInside, is_tight, facets_through}
 use Rattle.ntfe_model.proofs.Listings.{Contains-here}
 use Rattle.lattice_points.specs.Scans.{IsPointWith}
-
-range_more : (a n : ℕ) → range_with_len a (n + 1) ≡ range_with_len a n ++ (a + n) ∷ []
-range_more a n = sym (map-id (range_with_len a (n + 1))) ∙ map-range_with_len_more (λ k. k) a n (a + n) refl ∙ ap (λ ks. ks ++ (a + n) ∷ []) (map-id (range_with_len a n))
 
 -- one more number, which passes a test or fails it
 module _ (test : ℕ → Bool) (i : ℕ) where

@@ -12,4 +12,3 @@ mod tight;
 
 pub use fault::PointFault;
 pub use scan::points;
-pub use tight::is_tight;

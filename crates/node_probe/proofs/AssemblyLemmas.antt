@@ -10,7 +10,7 @@ use Rattle.ntfe_model.specs.declared.nogood.Part.{Part}
 use Rattle.ntfe_model.specs.declared.nogood.Term.{Term}
 use Rattle.ntfe_model.proofs.Listings.{AllPairs-append, Contains-here, Contains-cases, Contains-none}
 use Rattle.node_probe.specs.Refutations.{IsLastFace, AddsPart, IsAssembled}
-use Rattle.node_probe.proofs.Counts.{codes_count}
+use Rattle.ntfe_model.proofs.Counts.{codes_count}
 
 -- ---- no more parts than numbers of the head
 

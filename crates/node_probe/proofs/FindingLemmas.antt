@@ -8,7 +8,7 @@ use Rattle.ntfe_model.specs.Keys.{item_limit, last_number, IsKey}
 use Rattle.ntfe_model.specs.declared.nogood.Nogood.{Nogood}
 use Rattle.nogood_set.specs.Blocking.{IsFirstBlocking}
 use Rattle.node_probe.specs.Findings.{IsBlockedAt}
-use Rattle.node_probe.proofs.Counts.{faces_few}
+use Rattle.ntfe_model.proofs.Counts.{faces_few}
 
 pub key_few : (g : Shape) → IsShape g → (key : List ℕ) → IsKey g key → length key ≤ 4225
 key_few g s key k = let a = faces_few g s in let b = k.at_most in omega (arith, a, b)

@@ -4,6 +4,7 @@ use Rattle.std.specs.Prelude.{slice_get, Some, None}
 use Rattle.std.proofs.lemmas.Int.{ints}
 use Rattle.std.proofs.lemmas.List.{length-map, get_or-map}
 use Rattle.std.proofs.lemmas.Option.{slice_get-get_or}
+use Rattle.ntfe_model.proofs.Lists.{some_once}
 use Rattle.ntfe_model.specs.Shapes.{Shape, IsShape}
 use Rattle.ntfe_model.specs.Charts.{patch_at}
 use Rattle.ntfe_model.specs.Words.{IsItem, HasItem}
@@ -20,7 +21,8 @@ use Rattle.strict_solver.proofs.Uses.{AreTermsOf, terms_cancel}
 use Rattle.node_probe.specs.Heads.{AreHeadRows}
 use Rattle.node_probe.specs.Refutations.{IsAssembled}
 use Rattle.node_probe.specs.Findings.{IsRefutation}
-use Rattle.node_probe.proofs.Counts.{codes_count, head_few}
+use Rattle.ntfe_model.proofs.Counts.{codes_count}
+use Rattle.node_probe.proofs.Counts.{head_few}
 
 -- ---- the terms
 
@@ -39,9 +41,6 @@ terms_of rs (e ∷ ms) (t ∷ ts) a b = (
   sym (cons_first (Some t.fold) (slice_get rs e.0) (map (λ u. Some u.fold) ts) (map (λ f. slice_get rs f.0) ms) b),
   terms_of rs ms ts (cons_rest t.times e.1 (map (λ u. u.times) ts) (map (λ f. f.1) ms) a) (cons_rest (Some t.fold) (slice_get rs e.0) (map (λ u. Some u.fold) ts) (map (λ f. slice_get rs f.0) ms) b),
 )
-
-some_once : {X : Type 0} (x y : X) → Some x ≡ Some y → x ≡ y
-some_once x y e = cc
 
 module _ (g : Shape) (s : IsShape g) (key : List ℕ) (at_most : length key ≤ length g.faces) (items : AllItemsExist g key) (rs : List Fold) (faces : List ℕ) (rows : AreHeadRows g key rs faces)
     (ms : List (ℕ × ℤ)) (m : AreMultipliers (length g.points) (map (fold_row (length g.points)) rs) ms) (n : Nogood) (h : IsAssembled key rs faces ms n.parts n.terms) where

@@ -9,7 +9,7 @@ use Rattle.ntfe_model.specs.Charts.{patch_at}
 use Rattle.ntfe_model.specs.Words.{IsItem}
 use Rattle.ntfe_model.specs.declared.nogood.Fold.{Fold}
 use Rattle.ntfe_model.proofs.Listings.{AllPairs-append}
-use Rattle.fold_rows.specs.Rows.{IsSmallFold}
+use Rattle.ntfe_model.specs.Choices.{IsSmallFold}
 use Rattle.node_probe.specs.Heads.{AreItemFolds, IsRowOf, AreHeadRows}
 use Rattle.node_probe.proofs.Heads.{head_more}
 

@@ -14,9 +14,6 @@ use Rattle.node_probe.proofs.RowLemmas.{rows_step}
 use Rattle.node_probe.specs.declared.head.HeadRows.{HeadRows}
 use Rattle.node_probe.specs.Shelves.{patches, IsShelved, AreShelved, AddsItem}
 
-some_once : {X : Type 0} (x y : X) → Some x ≡ Some y → x ≡ y
-some_once x y e = cc
-
 -- what stands at a place with folds, as it is read
 pub shelved_read : (h : Patch) (kept : List (Option (List Fold))) (n : ℕ) (o : Option (List Fold)) (rs : List Fold) → AreShelved h kept → n < length kept → o ≡ get_or kept n o → o ≡ Some rs → IsShelved h n rs
 shelved_read h kept n o rs a l e q = a n rs (slice_get_read kept (length kept) n o refl l e ∙ ap Some q)

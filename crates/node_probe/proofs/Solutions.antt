@@ -5,11 +5,10 @@ use Rattle.std.proofs.lemmas.Int.{ints}
 use Rattle.std.proofs.lemmas.List.Elements.{All-weaker}
 use Rattle.std.proofs.lemmas.Option.{slice_get_within, get_or_from_slice_get}
 use Rattle.ntfe_model.specs.Shapes.{Shape, IsShape}
-use Rattle.ntfe_model.specs.Choices.{fold_value}
+use Rattle.ntfe_model.specs.Choices.{fold_value, IsSmallFold}
 use Rattle.ntfe_model.specs.Solver.{fold_row, IsFeasible, IsInfeasible, IsWide}
 use Rattle.ntfe_model.specs.Keys.{AllItemsExist, last_number, item_limit, IsClass, IsRefutedAt}
 use Rattle.ntfe_model.specs.declared.nogood.Fold.{Fold}
-use Rattle.fold_rows.specs.Rows.{IsSmallFold}
 use Rattle.strict_solver.specs.Starts.{IsFoldOver, AreFoldsOver}
 use Rattle.strict_solver.specs.Answers.{Answer}
 use Rattle.strict_solver.specs.Answers.Answer.{feasible, infeasible}

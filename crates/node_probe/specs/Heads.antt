@@ -4,11 +4,10 @@ use Rattle.ntfe_model.specs.Books.{KeepsItem}
 use Rattle.ntfe_model.specs.Shapes.{Shape}
 use Rattle.ntfe_model.specs.Charts.{patch_at}
 use Rattle.ntfe_model.specs.Words.{IsItem}
-use Rattle.ntfe_model.specs.Choices.{IsFoldOf, AreFolds}
+use Rattle.ntfe_model.specs.Choices.{IsFoldOf, AreFolds, IsSmallFold}
 use Rattle.ntfe_model.specs.Keys.{AreHeadFolds}
 use Rattle.ntfe_model.specs.declared.triangulation.Triangulation.{Triangulation}
 use Rattle.ntfe_model.specs.declared.nogood.Fold.{Fold}
-use Rattle.fold_rows.specs.Rows.{IsSmallFold}
 
 -- all items of the head are kept
 abbrev pub KeepsHead : (ℕ → ℕ → Option Triangulation) → List ℕ → Type 0

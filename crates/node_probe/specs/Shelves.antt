@@ -3,10 +3,9 @@ use Rattle.std.specs.Prelude.{◌≡◌, ℕ, List, ◌++◌, length, map, repli
 use Rattle.ntfe_model.specs.Shapes.{Shape}
 use Rattle.ntfe_model.specs.Charts.{Patch, patch_of}
 use Rattle.ntfe_model.specs.Words.{IsItem}
-use Rattle.ntfe_model.specs.Choices.{AreFolds}
+use Rattle.ntfe_model.specs.Choices.{AreFolds, IsSmallFold}
 use Rattle.ntfe_model.specs.declared.triangulation.Triangulation.{Triangulation}
 use Rattle.ntfe_model.specs.declared.nogood.Fold.{Fold}
-use Rattle.fold_rows.specs.Rows.{IsSmallFold}
 use Rattle.node_probe.specs.declared.head.HeadRows.{HeadRows}
 
 -- the patches of the geometry's two-faces, in their order

@@ -1,7 +1,6 @@
 //! The heights that the solver found on the way to a key, and whether they lift folds.
 ghost use Rattle.std.specs.Prelude.{◌≡◌, true, false, pos, ◌<ℤ◌, All, OnOk, IfOk};
-ghost use Rattle.ntfe_model.specs.Choices.{height, fold_value};
-ghost use Rattle.fold_rows.specs.Rows.{IsSmallFold};
+ghost use Rattle.ntfe_model.specs.Choices.{height, fold_value, IsSmallFold};
 ghost use Rattle.node_probe.specs.Lifted.{LiftsAll, AreLifted};
 
 use ntfe_model::Fold;

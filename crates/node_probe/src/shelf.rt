@@ -1,6 +1,6 @@
 //! What probes of a geometry's keys keep: the folds of its items, and heights.
 ghost use Rattle.std.specs.Prelude.{◌≡◌, ◌<◌, ◌≤◌, ◌^◌, true, [], length, All, IfOk, OnOk};
-ghost use Rattle.fold_rows.specs.Rows.{IsSmallFold};
+ghost use Rattle.ntfe_model.specs.Choices.{IsSmallFold};
 ghost use Rattle.ntfe_model.specs.Words.{IsItem};
 ghost use Rattle.ntfe_model.specs.Charts.{patch_at};
 ghost use Rattle.ntfe_model.specs.Books.{KeepsItem};

@@ -14,7 +14,8 @@ use Rattle.ntfe_model.specs.declared.nogood.Fold.{Fold}
 use Rattle.ntfe_model.proofs.Listings.{Contains-here, Contains-there, Contains-cases, Contains-none}
 use Rattle.ntfe_nums.proofs.Ring.{ring}
 use Rattle.ntfe_nums.proofs.Ring.Expression.{var, num, plus, minus, times}
-use Rattle.ntfe_model.proofs.PlaneNumbers.{sign_negative, positive_product, area_turn, area_swap, flat_last, flat_outer, flat_front, plane_first, plane_rise}
+use Rattle.ntfe_nums.proofs.Signs.{positive_product}
+use Rattle.ntfe_model.proofs.PlaneNumbers.{sign_negative, area_turn, area_swap, flat_last, flat_outer, flat_front, plane_first, plane_rise}
 use Rattle.ntfe_model.specs.Charts.{AreApart}
 use Rattle.ntfe_model.proofs.Triples.{third_point, corner_side, decide_is_side}
 use Rattle.ntfe_model.proofs.Folds.{unit_corner, opposite_balance, vector_swap}

@@ -6,6 +6,7 @@ use Rattle.ntfe_nums.specs.Vectors.{Vector, numbers, vector_sum, multiple, coord
 use Rattle.ntfe_model.specs.Charts.{reached}
 use Rattle.ntfe_nums.proofs.Ring.{Expression, ring}
 use Rattle.ntfe_nums.proofs.Ring.Expression.{var, num, plus, minus, times, neg}
+use Rattle.ntfe_nums.proofs.Signs.{size_zero, positive_product, product_zero}
 
 -- ---- products
 
@@ -14,21 +15,10 @@ nat_zero zero n e = inl refl
 nat_zero (suc m) zero e = inr refl
 nat_zero (suc m) (suc n) e = absurd (omega arith)
 
-size_zero : (z : ℤ) → unsigned_abs z ≡ 0 → z ≡ pos 0
-size_zero (pos n) e = ap pos e
-size_zero (negsuc n) e = absurd (omega arith)
-
 pub zero_factor : (a b : ℤ) → a *ℤ b ≡ pos 0 → (a ≡ pos 0) ⊎ (b ≡ pos 0)
 zero_factor a b e =
     ⊎_elim (λ p. inl (size_zero a p)) (λ p. inr (size_zero b p))
     (nat_zero (unsigned_abs a) (unsigned_abs b) (sym (unsigned_abs-mul a b) ∙ ap unsigned_abs e))
-
-pub positive_product : (a b : ℤ) → pos 0 <ℤ a → pos 0 <ℤ b → pos 0 <ℤ (a *ℤ b)
-positive_product (pos zero) b h k = absurd (omega (arith, ints, h))
-positive_product (negsuc m) b h k = absurd (omega (arith, ints, h))
-positive_product (pos (suc m)) (pos zero) h k = absurd (omega (arith, ints, k))
-positive_product (pos (suc m)) (negsuc n) h k = absurd (omega (arith, ints, k))
-positive_product (pos (suc m)) (pos (suc n)) h k = omega (arith, ints)
 
 pub negative_product : (a b : ℤ) → a <ℤ pos 0 → pos 0 <ℤ b → (a *ℤ b) <ℤ pos 0
 negative_product a b h k =
@@ -119,9 +109,6 @@ sign_not_right (pos (suc n)) h e = cc
 sign_not_right (negsuc n) h e = absurd (omega (arith, ints, h))
 
 -- ---- coordinates
-
-product_zero : (k : ℤ) → k *ℤ pos 0 ≡ pos 0
-product_zero k = omega (arith, ints)
 
 abbrev at : ℕ → Vector → ℤ
 at i v = slice_index_or (numbers v) i (pos 0)

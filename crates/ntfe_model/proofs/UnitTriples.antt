@@ -6,6 +6,7 @@ use Rattle.ntfe_model.specs.Charts.{Patch, axes, place, reached, IsOf, IsUnit}
 use Rattle.ntfe_model.specs.Charts.{AreApart}
 use Rattle.ntfe_nums.proofs.Ring.{ring}
 use Rattle.ntfe_nums.proofs.Ring.Expression.{var, num, plus, minus, times}
+use Rattle.ntfe_nums.proofs.Signs.{negative_or}
 use Rattle.ntfe_model.proofs.PlaneNumbers.{positive_sign, negative_product, cancel, equal_multiples, area_turn, area_first, area_second, area_third, area_multiple}
 
 abbrev pub area_of : Patch → ℕ → ℕ → ℕ → ℤ
@@ -137,10 +138,6 @@ corner_place a b c s t h k l = by (corner_numbers s t h k l)
     by (inr (inl (e, f))) = inr (inl ((λ i. reached a b c (e i) (f i)) ∙ reached_second a b c))
     by (inr (inr (e, f))) = inr (inr ((λ i. reached a b c (e i) (f i)) ∙ reached_third a b c))
 
-below_or_not : (z : ℤ) → (z <ℤ pos 0) ⊎ (pos 0 ≤ℤ z)
-below_or_not (pos n) = inr (omega (arith, ints))
-below_or_not (negsuc n) = inl (omega (arith, ints))
-
 -- the point lies beyond a side of the triple
 abbrev pub IsBeyond : Patch → ℕ → ℕ → ℕ → ℕ → Type 0
 IsBeyond h a b c p = (area_of h a b p <ℤ pos 0) ⊎ ((area_of h b c p <ℤ pos 0) ⊎ (area_of h c a p <ℤ pos 0))
@@ -150,7 +147,7 @@ pub corner_or_beyond : (h : Patch) → AreApart h → (a b c p : ℕ) → IsUnit
 corner_or_beyond h apart a b c p u o = let r = u.reaches p o in beyond_at r.0 r.1 r.2
   where
     beyond_at : (s t : ℤ) → place h p ≡ reached (place h a) (place h b) (place h c) s t → ((p ≡ a) ⊎ ((p ≡ b) ⊎ (p ≡ c))) ⊎ IsBeyond h a b c p
-    beyond_at s t lies = by (below_or_not t) (below_or_not (pos 1 -ℤ s -ℤ t)) (below_or_not s)
+    beyond_at s t lies = by (negative_or t) (negative_or (pos 1 -ℤ s -ℤ t)) (negative_or s)
       where
         below : (x y : ℤ) → x ≡ y → y <ℤ pos 0 → x <ℤ pos 0
         below x y e l = omega (arith, ints, e, l)

@@ -1,5 +1,5 @@
 -- Choices, heights above triples, folds, and extendable choices.
-use Rattle.std.specs.Prelude.{◌≡◌, ◌≢◌, ℕ, ◌-◌, ◌<◌, ◌⊎◌, ℤ, pos, ◌+ℤ◌, ◌-ℤ◌, ◌*ℤ◌, ◌<ℤ◌, List, length, slice_index, slice_index_or, Contains}
+use Rattle.std.specs.Prelude.{◌≡◌, ◌≢◌, ℕ, ◌-◌, ◌<◌, ◌⊎◌, ℤ, pos, ◌+ℤ◌, ◌-ℤ◌, ◌*ℤ◌, ◌<ℤ◌, List, length, slice_index, slice_index_or, Contains, unsigned_abs, ◌≤◌}
 use Rattle.ntfe_model.specs.Lists.{IsListing, IsBefore2}
 use Rattle.ntfe_nums.specs.Vectors.{vector_sum, multiple}
 use Rattle.ntfe_model.specs.Shapes.{Shape}
@@ -59,6 +59,10 @@ pub record IsFoldOf (h : Patch) (x : Triangulation) (r : Fold) : Type 0 where
   pub opposite : AreOpposite x.triangles r.a r.b r.c r.d ⊎ AreOpposite x.triangles r.a r.b r.d r.c
   pub balance : vector_sum (place h r.c) (place h r.d) ≡ vector_sum (multiple r.alpha (place h r.a)) (multiple r.beta (place h r.b))
   pub two : r.alpha +ℤ r.beta ≡ pos 2
+
+-- the factors of a fold are small, as those of every item's folds are
+abbrev pub IsSmallFold : Fold → Type 0
+IsSmallFold r = (unsigned_abs r.alpha ≤ 4094) × (unsigned_abs r.beta ≤ 4094)
 
 -- The folds of an item, in order of edges. Each inner edge of a fine triangulation has exactly one, which is to be proved.
 abbrev pub AreFolds : Patch → Triangulation → List Fold → Type 0

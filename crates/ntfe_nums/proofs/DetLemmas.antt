@@ -1,8 +1,8 @@
 -- Determinants: the normal of a hyperplane, and Cramer's rule.
-use Rattle.std.proofs.Common.{◌≡◌, ℕ, ◌+◌, refl, ℤ, pos, ◌+ℤ◌, ◌*ℤ◌, neg_ℤ, List, [], ◌∷◌}
+use Rattle.std.proofs.Common.{◌≡◌, ℕ, ◌+◌, refl, ℤ, ◌+ℤ◌, ◌*ℤ◌, List, [], ◌∷◌}
 use Rattle.ntfe_nums.specs.Vectors.{Vector, dot, difference, det4, normal, cofactors, side_of}
 use Rattle.ntfe_nums.proofs.Ring.{Expression, value, ring}
-use Rattle.ntfe_nums.proofs.Ring.Expression.{var, num, plus, minus, times, neg}
+use Rattle.ntfe_nums.proofs.Ring.Expression.{var, plus, minus, times, neg}
 
 -- the definitions again, over polynomials
 abbrev pub det2E : Expression → Expression → Expression → Expression → Expression
@@ -51,16 +51,7 @@ pub side-normal : (a b c d x : Vector) → side_of a b c d x ≡ dot (normal a b
 unfolding det4 cofactors
 side-normal a b c d x = last_row (difference b a) (difference c a) (difference d a) (difference x a)
 
--- two equal rows
-pub det4-same_rows : (a b c : Vector) → det4 a a b c ≡ pos 0
-unfolding det4
-det4-same_rows a b c = ring (of4 a b c c) (det4E (row 0) (row 0) (row 4) (row 8)) (num (pos 0)) refl
-
-pub det4-swap : (a b c d : Vector) → det4 b a c d ≡ neg_ℤ (det4 a b c d)
-unfolding det4
-det4-swap a b c d = ring (of4 a b c d) (det4E (row 4) (row 0) (row 8) (row 12)) (neg (det4E (row 0) (row 4) (row 8) (row 12))) refl
-
-abbrev of5 : Vector → Vector → Vector → Vector → Vector → List ℤ
+abbrev pub of5 : Vector → Vector → Vector → Vector → Vector → List ℤ
 of5 a b c d p = a.x1 ∷ a.x2 ∷ a.x3 ∷ a.x4 ∷ b.x1 ∷ b.x2 ∷ b.x3 ∷ b.x4 ∷ c.x1 ∷ c.x2 ∷ c.x3 ∷ c.x4 ∷ d.x1 ∷ d.x2 ∷ d.x3 ∷ d.x4 ∷ p.x1 ∷ p.x2 ∷ p.x3 ∷ p.x4 ∷ []
 
 -- Cramer's rule, in the first coordinate

@@ -1,5 +1,8 @@
 pub mod DetLemmas
+pub mod Exchanges
 pub mod LevelLemmas
 pub mod Machine
 pub mod Ring
 pub mod SideLemmas
+pub mod Signs
+pub mod Tests

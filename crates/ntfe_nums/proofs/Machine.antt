@@ -3,7 +3,7 @@
 --     machine w vars e      what the code computes, each number put into a word of width w
 --     raw w vars e      the same before the last number is put into a word
 --     exact, fits      `machine` is `value`; `raw` fits.  `refl` proves the test that `fit` makes with the bounds
-use Rattle.std.proofs.Common.{◌≡◌, ℕ, zero, suc, ◌+◌, ◌*◌, ◌^◌, ◌<◌, ◌≤◌, Bool, true, false, ◌&&◌, nat_lt, refl, sym, ap, ◌∙◌, subst, arith, ℤ, pos, ◌+ℤ◌, ◌-ℤ◌, ◌*ℤ◌, neg_ℤ, List, [], ◌∷◌, get_or, to_z, of_z, to_z-of_z, FitsSigned, unsigned_abs, mul-le-mul}
+use Rattle.std.proofs.Common.{◌≡◌, ℕ, zero, suc, ◌+◌, ◌*◌, ◌^◌, ◌<◌, ◌≤◌, Bool, true, ◌&&◌, nat_lt, refl, sym, ap, ◌∙◌, subst, arith, ℤ, pos, ◌+ℤ◌, ◌-ℤ◌, ◌*ℤ◌, neg_ℤ, List, [], ◌∷◌, get_or, to_z, of_z, to_z-of_z, FitsSigned, unsigned_abs, mul-le-mul}
 use Rattle.std.proofs.lemmas.Int.{ints, unsigned_abs-mul, fits_signed_from_abs}
 use Rattle.std.proofs.lemmas.Bool.Decides.{nat_tests}
 use Rattle.std.specs.Int.{Width}
@@ -13,6 +13,7 @@ use Rattle.ntfe_nums.specs.Vectors.{numbers, vector, difference}
 use Rattle.ntfe_nums.specs.Sizes.{AreWithin}
 use Rattle.ntfe_nums.proofs.Ring.{Expression, value}
 use Rattle.ntfe_nums.proofs.Ring.Expression.{var, num, plus, minus, times, neg}
+use Rattle.ntfe_nums.proofs.Tests.{both}
 
 -- ---- what the code computes
 
@@ -71,10 +72,6 @@ abs_neg a = omega (arith, ints)
 
 below : (m h : ℕ) → nat_lt m h ≡ true → m < h
 below m h e = grind (arith, nat_tests)
-
-both : (p q : Bool) → (p && q) ≡ true → (p ≡ true) × (q ≡ true)
-both true q e = (refl, e)
-both false q e = cc
 
 pub bounded_at : (vs : List ℤ) (bs : List ℕ) (i : ℕ) → AreBounded vs bs → unsigned_abs (get_or vs i (pos 0)) ≤ get_or bs i 0
 bounded_at [] bs i h = omega arith

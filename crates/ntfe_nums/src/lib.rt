@@ -1,10 +1,14 @@
 //! Exact whole numbers: scalar products, determinants and normals.
 #![tactic(auto)]
 
-ghost use Rattle.std.specs.Prelude.{◌≡◌, ◌^◌, ◌≤◌, ◌<◌, ◌↔◌, [], ◌∷◌, slice_index_or, neg_ℤ, ◌+ℤ◌, unsigned_abs, MatchOption};
+ghost use Rattle.std.specs.Prelude.{◌≡◌, ◌≢◌, ◌^◌, ◌≤◌, ◌<◌, ◌↔◌, [], ◌∷◌, slice_index_or, neg_ℤ, ◌+ℤ◌, unsigned_abs, MatchOption};
 ghost use Rattle.std.specs.Int.{IsGcd};
-ghost use Rattle.ntfe_nums.specs.Vectors.{vector, numbers, difference, dot, normal, det2, det3, det4 as determinant, cofactors};
+ghost use Rattle.ntfe_nums.specs.Vectors.{Vector, vector, numbers, origin, difference, dot, normal, side_of, AreAffinelyIndependent, det2, det3, det4 as determinant, cofactors};
 ghost use Rattle.ntfe_nums.specs.Sizes.{AreWithin};
+
+mod planes;
+
+pub use planes::{short_normal, short_product};
 
 /// The scalar product of two small vectors.
 pub fn dot4(a: &[i64; 4], b: &[i64; 4]) -> i64
@@ -96,12 +100,15 @@ pub fn det4(rows: &[[i64; 4]; 4]) -> i128
     dot_wide(&n, &x)
 }
 
-/// The normal and the constant of the hyperplane through four points.
+/// The normal n and the constant k of the hyperplane through four points: n·x + k is the determinant of b - a, c - a,
+/// d - a and x - a for every x. The normal is 0 exactly where the four points are affinely dependent.
 pub fn normal4(a: &[i64; 4], b: &[i64; 4], c: &[i64; 4], d: &[i64; 4]) -> ([i128; 4], i128)
     requires first { AreWithin (2 ^ 20) a.now }
     requires second { AreWithin (2 ^ 20) b.now }
     requires third { AreWithin (2 ^ 20) c.now }
     requires fourth { AreWithin (2 ^ 20) d.now }
+    ensures plane { (x : Vector) → dot (vector result.0) x +ℤ result.1 ≡ side_of (vector a.now) (vector b.now) (vector c.now) (vector d.now) x }
+    ensures independent { (vector result.0 ≢ origin) ↔ AreAffinelyIndependent (vector a.now) (vector b.now) (vector c.now) (vector d.now) }
     ensures normal { vector result.0 ≡ normal (vector a.now) (vector b.now) (vector c.now) (vector d.now) }
     ensures constant { result.1 ≡ neg_ℤ (dot (vector result.0) (vector a.now)) }
     ensures large { AreWithin (2 ^ 66) result.0 }

@@ -9,6 +9,7 @@ use Rattle.std.specs.declared.cmp.Ordering.TheVariants.{Less, Equal, Greater}
 use Rattle.std.specs.Cmp.Lexicographic.{slice_cmp}
 use Rattle.std.proofs.lemmas.List.Elements.{All-contains, All-nil}
 use Rattle.std.proofs.lemmas.List.Kept.{AllPairs-cons}
+use Rattle.ntfe_model.proofs.Lists.{Contains-map}
 use Rattle.ntfe_model.specs.Lists.{IsListing, IsBelow}
 use Rattle.ntfe_model.specs.Charts.{Patch, spot_numbers, IsOf, IsUnit, IsStep, AreApart}
 use Rattle.ntfe_model.specs.Words.{written, IsTriangulation, IsItem}
@@ -23,7 +24,6 @@ use Rattle.fine_stream.proofs.Searches.{closed, closed_of, completes_fits, compl
 use Rattle.fine_stream.proofs.Waiting.{triangulation_completes, completes_triangulation}
 use Rattle.ntfe_run.proofs.PartDecisions.{decide_fits}
 use Rattle.star_builder.proofs.FaceSteps.{decide_listed}
-use Rattle.star_builder.proofs.LeastSlope.{Contains-map}
 
 -- ---- listings of images
 

@@ -1,5 +1,5 @@
 -- From first places, counted from 0, to least numbers, counted from 1.
-use Rattle.std.proofs.Common.{◌≡◌, ◌∙◌, ℕ, ◌+◌, ◌-◌, ◌<◌, ⊎_elim, sym, ap, subst, arith, negsuc, ◌≤ℤ◌, ◌<ℤ◌, ℤ, List, length, get_or}
+use Rattle.std.proofs.Common.{◌≡◌, ◌∙◌, ℕ, ◌+◌, ◌-◌, ◌<◌, ⊎_elim, sym, ap, subst, arith, negsuc, ◌≤ℤ◌, ◌<ℤ◌, ℤ, List, length}
 use Rattle.std.proofs.lemmas.Int.{ints}
 use Rattle.std.proofs.lemmas.List.{get_or_default}
 use Rattle.std.specs.Prelude.{Contains}
@@ -19,9 +19,6 @@ at_number : (vs : List Vector) (a i : ℕ) → a ≡ i + 1 → at vs i ≡ entry
 at_number vs a i e = let f : i ≡ a - 1 = omega arith in ap (at vs) f
 
 -- what the code reads at a place
-pub read_at : (vs : List Vector) (i : ℕ) (x : Vector) → x ≡ get_or vs i x → i < length vs → x ≡ at vs i
-read_at vs i x e lt = e ∙ get_or_default vs i x origin lt
-
 pub same_four : (P : Vector → Vector → Vector → Vector → Type 0) {a b c d a' b' c' d' : Vector} → a ≡ a' → b ≡ b' → c ≡ c' → d ≡ d' → P a b c d → P a' b' c' d'
 same_four P {a} {b} {c} {d} {a'} {b'} {c'} {d'} e f g h x =
     let P1 : Vector → Type 0 = λ y. P y b c d in

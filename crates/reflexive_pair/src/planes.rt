@@ -7,6 +7,7 @@ ghost use Rattle.ntfe_model.specs.Reflexive.{IsOnOneSide};
 ghost use Rattle.reflexive_pair.specs.Sides.{NoneAbove, NoneBelow};
 
 use ntfe_model::Vec4;
+use ntfe_nums::{short_normal, short_product};
 
 /// The vector from one point to another.
 #[inline(always)]
@@ -19,22 +20,6 @@ fn edge(from: &Vec4, to: &Vec4) -> [i64; 4]
     let a = from.coordinates();
     let b = to.coordinates();
     [b[0] - a[0], b[1] - a[1], b[2] - a[2], b[3] - a[3]]
-}
-
-/// The determinant of three columns of three rows.
-#[inline(always)]
-fn minor(u: &[i64; 4], v: &[i64; 4], w: &[i64; 4], i: usize, j: usize, k: usize) -> i64
-    requires first { AreWithin (2 ^ 11) u.now }
-    requires second { AreWithin (2 ^ 11) v.now }
-    requires third { AreWithin (2 ^ 11) w.now }
-    requires column_i { i < 4 }
-    requires column_j { j < 4 }
-    requires column_k { k < 4 }
-    ensures value { result ≡ det3 (slice_index_or u.now i (pos 0)) (slice_index_or u.now j (pos 0)) (slice_index_or u.now k (pos 0)) (slice_index_or v.now i (pos 0)) (slice_index_or v.now j (pos 0)) (slice_index_or v.now k (pos 0)) (slice_index_or w.now i (pos 0)) (slice_index_or w.now j (pos 0)) (slice_index_or w.now k (pos 0)) }
-    ensures size { AreWithin (2 ^ 36) (result ∷ []) }
-{
-    w[k] * (u[i] * v[j] - u[j] * v[i]) - w[j] * (u[i] * v[k] - u[k] * v[i])
-        + w[i] * (u[j] * v[k] - u[k] * v[j])
 }
 
 /// The normal of the hyperplane through four points, which is 0 where they are affinely dependent.
@@ -50,11 +35,7 @@ fn normal_of(a: &Vec4, b: &Vec4, c: &Vec4, d: &Vec4) -> [i64; 4]
     let u = edge(a, b);
     let v = edge(a, c);
     let w = edge(a, d);
-    let first = minor(&u, &v, &w, 2, 1, 3);
-    let second = minor(&u, &v, &w, 0, 2, 3);
-    let third = minor(&u, &v, &w, 1, 0, 3);
-    let fourth = minor(&u, &v, &w, 0, 1, 2);
-    [first, second, third, fourth]
+    short_normal(&u, &v, &w)
 }
 
 /// The scalar product of a normal and a point.
@@ -64,8 +45,7 @@ fn height(n: &[i64; 4], x: &Vec4) -> i64
     requires small { IsSmall x.now }
     ensures { result ≡ dot (vector n.now) x.now }
 {
-    let x = x.coordinates();
-    n[0] * x[0] + n[1] * x[1] + n[2] * x[2] + n[3] * x[3]
+    short_product(n, x.coordinates())
 }
 
 /// Whether x is higher than a along the normal.

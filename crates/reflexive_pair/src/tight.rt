@@ -7,7 +7,7 @@ ghost use Rattle.ntfe_model.specs.Reflexive.{at, IsTight, AreTightFour, IsTightO
 ghost use Rattle.reflexive_pair.specs.RuledOut.{AreTightOnFour};
 
 use crate::fours::{FourTest, first_four};
-use ntfe_model::Vec4;
+use ntfe_model::{Vec4, is_tight};
 use ntfe_nums::{det4, dot4};
 
 /// The scalar product.
@@ -17,16 +17,6 @@ pub fn product(m: &Vec4, v: &Vec4) -> i64
     ensures { result ≡ dot m.now v.now }
 {
     dot4(m.coordinates(), v.coordinates())
-}
-
-/// Whether the scalar product is -1.
-pub fn is_tight(m: &Vec4, v: &Vec4) -> bool
-    requires first { IsSmall m.now }
-    requires second { IsSmall v.now }
-    ensures when_true { result ≡ true → IsTight m.now v.now }
-    ensures when_false { result ≡ false → ¬ (IsTight m.now v.now) }
-{
-    product(m, v) == -1
 }
 
 /// Whether four vectors are linearly independent.

@@ -4,6 +4,7 @@ use lib.Signed.{lt_z}
 use Rattle.std.proofs.lemmas.Int.{ints}
 use Rattle.std.specs.Int.{w128}
 use Rattle.ntfe_nums.proofs.Machine.{back}
+use Rattle.ntfe_nums.proofs.Tests.{least_from_test}
 use Rattle.ntfe_model.specs.Choices.{height}
 use Rattle.ntfe_model.specs.Stars.{IsMixture, IsLexAbove, IsFirstPositive, push_coefficient}
 use Rattle.ntfe_model.specs.declared.point.Point.{Point}
@@ -43,9 +44,6 @@ module _ (xs : List Point) (w : List ℤ) (order : List ℕ) (f : Four) (p : ℕ
       under_not_above ne h a = ⊎_elim (λ k. not_first up ne h k) (λ k. ne k.0) (decided a)
 
 -- ---- tests of a word with 0
-
-least_from_test : (a b : ℤ) → lt_z a b ≡ false → b ≤ℤ a
-least_from_test a b h = grind (arith, ints)
 
 module _ (z : ℤ) (s : unsigned_abs z ≤ 2 ^ 114) where
   whole : to_z w128 (of_z w128 z) ≡ z

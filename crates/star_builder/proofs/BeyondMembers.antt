@@ -11,7 +11,7 @@ use Rattle.ntfe_model.specs.Pairs.{entry}
 use Rattle.ntfe_model.specs.Points.{place_of_point}
 use Rattle.ntfe_model.specs.Shapes.{Shape, IsShape}
 use Rattle.ntfe_model.specs.Stars.{IsOrder, IsMember, IsStar, AreIn, HasRidge, IsBeyond}
-use Rattle.ntfe_model.proofs.PlaneNumbers.{positive_product, positive_factor, zero_factor}
+use Rattle.ntfe_model.proofs.PlaneNumbers.{positive_factor, zero_factor}
 use Rattle.star_builder.proofs.Covering.{heights_generic}
 use Rattle.star_builder.proofs.FourPoints.{in_four}
 use Rattle.star_builder.proofs.InnerRidges.{beyond_ridge, one_on_side}
@@ -23,7 +23,7 @@ use Rattle.star_builder.proofs.Sorting.{by_size}
 use Rattle.star_builder.proofs.Supports.{tight_points}
 use Rattle.star_builder.proofs.VertexPoints.{point_small}
 use Rattle.star_builder.proofs.WholeHeights.{whole}
-use Rattle.star_builder.proofs.Signs.{sign_of, square_positive}
+use Rattle.ntfe_nums.proofs.Signs.{sign_of, square_positive, positive_product}
 
 -- two numbers on the side that the first is not on
 one_side : (z x y : ℤ) → z ≢ pos 0 → (z *ℤ x) <ℤ pos 0 → (z *ℤ y) <ℤ pos 0 → pos 0 <ℤ (x *ℤ y)

@@ -5,6 +5,7 @@ use Rattle.std.proofs.lemmas.Int.{ints}
 use Rattle.ntfe_nums.specs.Vectors.{Vector, coordinate, area}
 use Rattle.ntfe_nums.proofs.Ring.{Expression, ring}
 use Rattle.ntfe_nums.proofs.Ring.Expression.{var, plus, minus, times, neg}
+use Rattle.ntfe_nums.proofs.Signs.{negative_or, positive_product}
 use Rattle.ntfe_model.specs.Charts.{Patch, axes, place, IsOf, AreApart}
 use Rattle.ntfe_model.specs.Triangulations.{IsRotationOf, IsFine}
 use Rattle.ntfe_model.specs.Choices.{height, IsAbove, IsRegularBy}
@@ -12,16 +13,12 @@ use Rattle.ntfe_model.specs.declared.triangulation.Triangulation.{Triangulation}
 use Rattle.ntfe_model.specs.declared.triangle.Triangle.{Triangle}
 use Rattle.ntfe_model.proofs.Triples.{Decided, decide_number}
 use Rattle.ntfe_model.proofs.Folds.{unit_corner, opposite_balance}
-use Rattle.ntfe_model.proofs.PlaneNumbers.{positive_product, area_turn, area_swap, flat_last, flat_outer, flat_front, plane}
+use Rattle.ntfe_model.proofs.PlaneNumbers.{area_turn, area_swap, flat_last, flat_outer, flat_front, plane}
 use Rattle.ntfe_model.proofs.UnitTriples.{area_of, unit_area}
 use Rattle.ntfe_model.proofs.Levels.{level, plane_reached}
 use Rattle.ntfe_model.proofs.FoldPlanes.{AreFoldsPositive, above_gives_folds, level_at_corner, opposite_apart, neighbour, opposite_positive, level_of, level_rise, highest_of, level_corner, level_most}
 
 -- ---- whole numbers
-
-pub sign_or_not : (z : ℤ) → (z <ℤ pos 0) ⊎ (pos 0 ≤ℤ z)
-sign_or_not (pos n) = inr (omega (arith, ints))
-sign_or_not (negsuc n) = inl (omega (arith, ints))
 
 -- a factor that is not negative keeps an order
 pub times_keeps : (k x y : ℤ) → pos 0 ≤ℤ k → x ≤ℤ y → (k *ℤ x) ≤ℤ (k *ℤ y)
@@ -50,7 +47,7 @@ times_keeps (pos (suc n)) x y l m = by (y -ℤ x) refl
 
 -- a positive factor may be left out
 pub factor_out : (k x y : ℤ) → pos 0 <ℤ k → (k *ℤ x) ≤ℤ (k *ℤ y) → x ≤ℤ y
-factor_out k x y l m = by (sign_or_not (y -ℤ x))
+factor_out k x y l m = by (negative_or (y -ℤ x))
   where
     back : pos 0 ≤ℤ (y -ℤ x) → x ≤ℤ y
     back p = omega (arith, ints, p)
@@ -229,7 +226,7 @@ module _ (h : Patch) (apart : AreApart h) (w : List ℤ) (x : Triangulation) (fi
     beside y z = area_of h y z a +ℤ area_of h y z b +ℤ area_of h y z c
 
     some_negative : (k l m : ℤ) → (k +ℤ l +ℤ m) <ℤ pos 0 → (k <ℤ pos 0) ⊎ ((l <ℤ pos 0) ⊎ (m <ℤ pos 0))
-    some_negative k l m s = by (sign_or_not k) (sign_or_not l)
+    some_negative k l m s = by (negative_or k) (negative_or l)
       where
         by : (k <ℤ pos 0) ⊎ (pos 0 ≤ℤ k) → (l <ℤ pos 0) ⊎ (pos 0 ≤ℤ l) → (k <ℤ pos 0) ⊎ ((l <ℤ pos 0) ⊎ (m <ℤ pos 0))
         by (inl p) q = inl p
@@ -239,7 +236,7 @@ module _ (h : Patch) (apart : AreApart h) (w : List ℤ) (x : Triangulation) (fi
     -- the centre lies beyond no side of the triple whose plane is highest there
     centre_inside : (m : Triangle) → Contains x.triangles m → ((u : Triangle) → Contains x.triangles u → centre u ≤ℤ centre m) → (y z v : ℕ) → IsRotationOf m y z v → pos 0 ≤ℤ beside y z
     unfolding centre beside
-    centre_inside m i most y z v k = by (sign_or_not (beside y z))
+    centre_inside m i most y z v k = by (negative_or (beside y z))
       where
         higher : IsHigherBeyond h w x.triangles m y z → (beside y z <ℤ pos 0) → ⊥
         higher r l =

@@ -19,7 +19,7 @@ use Rattle.star_builder.proofs.Sorting.{less_or}
 use Rattle.star_builder.proofs.Supports.{tight_points}
 use Rattle.star_builder.proofs.WholeHeights.{whole}
 use Rattle.star_builder.proofs.Searches.{some_or_all}
-use Rattle.star_builder.proofs.Signs.{negative_or}
+use Rattle.ntfe_nums.proofs.Signs.{negative_or}
 
 module _ (g : Shape) (w : List ℤ) (order : List ℕ) (star : List (List ℕ)) (s : IsShape g) (all : IsOrder (length g.points) order) (is : IsStar g.pair.dual g.points w order star)
     (members : List ℕ) (h : Contains star members) (without : ℕ) (has : Contains members without) where

@@ -8,21 +8,13 @@ use Rattle.ntfe_nums.proofs.Ring.{ring}
 use Rattle.ntfe_nums.proofs.Ring.Expression.{var, num, minus, neg}
 use Rattle.ntfe_nums.proofs.DetLemmas.{row, det4E, dotE, normalE, of4}
 use Rattle.ntfe_nums.proofs.Machine.{exact, back}
+use Rattle.ntfe_nums.proofs.Tests.{least_from_test, below_from_test}
+use Rattle.ntfe_nums.proofs.Signs.{zero_minus}
 
 -- ---- signed words
 
 pub same_word : (z : ℤ) → unsigned_abs z ≤ 2 ^ 48 → to_z w128 (of_z w128 z) ≡ z
 same_word z s = back w128 z (2 ^ 48) s (omega arith)
-
-zero_minus : (z : ℤ) → pos 0 -ℤ z ≡ neg_ℤ z
-zero_minus z = omega (arith, ints)
-
--- what tests of a word with 0 say
-below_from_test : (a b : ℤ) → lt_z a b ≡ true → a <ℤ b
-below_from_test a b t = grind (arith, ints)
-
-least_from_test : (a b : ℤ) → lt_z a b ≡ false → b ≤ℤ a
-least_from_test a b t = grind (arith, ints)
 
 module _ (z : ℤ) (s : unsigned_abs z ≤ 2 ^ 48) where
   pub negative_from_test : lt_z (to_z w128 (of_z w128 z)) (pos 0) ≡ true → z <ℤ pos 0

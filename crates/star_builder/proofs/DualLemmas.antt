@@ -3,9 +3,9 @@ use Rattle.std.proofs.Common.{◌≡◌, ◌∙◌, refl, sym, ℤ, ◌*ℤ◌}
 use Rattle.ntfe_nums.specs.Vectors.{Vector, dot, det4, AreLinearlyIndependent}
 use Rattle.ntfe_nums.proofs.Ring.{ring}
 use Rattle.ntfe_nums.proofs.Ring.Expression.{var, times}
-use Rattle.ntfe_nums.proofs.DetLemmas.{Row, row, det4E, dotE}
+use Rattle.ntfe_nums.proofs.DetLemmas.{Row, row, det4E, dotE, of5}
 use Rattle.ntfe_model.specs.Reflexive.{IsTight}
-use Rattle.star_builder.proofs.Mixtures.{of5, same_factor}
+use Rattle.star_builder.proofs.Mixtures.{same_factor}
 
 -- the vector with another number in one place
 abbrev with1 : ℤ → Vector → Vector

@@ -8,15 +8,17 @@ use Rattle.std.proofs.lemmas.List.{get_or_default}
 use Rattle.ntfe_nums.specs.Vectors.{Vector, origin, dot, difference, det4, side_of, AreAffinelyIndependent}
 use Rattle.ntfe_nums.proofs.Ring.{ring}
 use Rattle.ntfe_nums.proofs.Ring.Expression.{var, num, plus, minus, times, neg}
-use Rattle.ntfe_nums.proofs.DetLemmas.{row, dotE, det4E, of4, det4-same_rows}
+use Rattle.ntfe_nums.proofs.DetLemmas.{row, dotE, det4E, of4}
+use Rattle.ntfe_nums.proofs.Signs.{zero_out, negative_or, positive_product, sum_not_negative, product_exchanged, not_negative, positive_some, above_zero}
+use Rattle.ntfe_nums.proofs.Exchanges.{same_front}
 use Rattle.ntfe_model.specs.Pairs.{VertexLists}
 use Rattle.ntfe_model.specs.Reflexive.{IsTight, IsTightOnFour, IsReflexive, IsOnOneSide, HasFacet, at}
 use Rattle.ntfe_model.specs.Points.{SpanPlane}
 use Rattle.ntfe_model.proofs.Listings.{All-from_contains}
-use Rattle.ntfe_model.proofs.PlaneNumbers.{positive_product, positive_factor}
+use Rattle.ntfe_model.proofs.PlaneNumbers.{positive_factor}
 use Rattle.ntfe_model.proofs.Triples.{Decided, decide_both}
 use Rattle.star_builder.proofs.Leading.{three_signs}
-use Rattle.star_builder.proofs.CentreTriples.{times_keeps, sign_or_not}
+use Rattle.star_builder.proofs.CentreTriples.{times_keeps}
 use Rattle.star_builder.proofs.FacetPoints.{decide_equal, zero_on_four, same_form, place_in}
 use Rattle.star_builder.proofs.Decisions.{decide_less, decide_not, count, count_falls, least_ratio}
 use Rattle.star_builder.proofs.Pencils.{pencil, affine_swap12, affine_swap23, affine_swap34, affine_outside, one_side, plane_spanned}
@@ -44,34 +46,14 @@ move n m x =
     ring (of4 n m x x) (dotE (record { x1 = minus (var 0) (var 4); x2 = minus (var 1) (var 5); x3 = minus (var 2) (var 6); x4 = minus (var 3) (var 7) }) (row 8))
     (minus (dotE (row 0) (row 8)) (dotE (row 4) (row 8))) refl
 
-order : (y z : ℤ) → y *ℤ z ≡ z *ℤ y
-order y z = omega (arith, ints)
-
-times_none : (k z : ℤ) → z ≡ pos 0 → k *ℤ z ≡ pos 0
-times_none k z e = ap (λ x. k *ℤ x) e ∙ omega (arith, ints)
-
 times_not_negative : (k z : ℤ) → pos 0 ≤ℤ k → pos 0 ≤ℤ z → pos 0 ≤ℤ (k *ℤ z)
 times_not_negative k z l m = from (k *ℤ pos 0) (k *ℤ z) (omega (arith, ints)) (times_keeps k (pos 0) z l m)
   where
     from : (u v : ℤ) → u ≡ pos 0 → u ≤ℤ v → pos 0 ≤ℤ v
     from u v e i = omega (arith, ints, e, i)
 
-strict_weak : (z : ℤ) → pos 0 <ℤ z → pos 0 ≤ℤ z
-strict_weak z l = omega (arith, ints, l)
-
 equal_weak : (z : ℤ) → z ≡ pos 0 → pos 0 ≤ℤ z
 equal_weak z e = omega (arith, ints, e)
-
-positive_not_none : (z : ℤ) → pos 0 <ℤ z → z ≢ pos 0
-positive_not_none z l e = absurd (omega (arith, ints, l, e))
-
-positive_from : (z : ℤ) → pos 0 ≤ℤ z → z ≢ pos 0 → pos 0 <ℤ z
-positive_from (pos zero) l n = absurd (n refl)
-positive_from (pos (suc k)) l n = omega (arith, ints)
-positive_from (negsuc k) l n = absurd (omega (arith, ints, l))
-
-sum_weak : (y z : ℤ) → pos 0 ≤ℤ y → pos 0 ≤ℤ z → pos 0 ≤ℤ (y +ℤ z)
-sum_weak y z l m = omega (arith, ints, l, m)
 
 sum_strict : (y z : ℤ) → pos 0 ≤ℤ y → pos 0 <ℤ z → pos 0 <ℤ (y +ℤ z)
 sum_strict y z l m = omega (arith, ints, l, m)
@@ -81,7 +63,7 @@ sum_none y z e f = omega (arith, ints, e, f)
 
 -- x v = u y with positive y and negative u: x and v have different signs
 pub negative_from : (x v u y : ℤ) → x *ℤ v ≡ u *ℤ y → u <ℤ pos 0 → pos 0 <ℤ y → pos 0 ≤ℤ v → x <ℤ pos 0
-negative_from x v u y e l m k = by (sign_or_not x)
+negative_from x v u y e l m k = by (negative_or x)
   where
     turned : pos 0 <ℤ neg_ℤ (u *ℤ y)
     turned = let P : ℤ → Type 0 = λ z. pos 0 <ℤ z in subst P (ring (u ∷ y ∷ []) (times (neg (var 0)) (var 1)) (neg (times (var 0) (var 1))) refl) (positive_product (neg_ℤ u) y (omega (arith, ints, l)) m)
@@ -258,7 +240,7 @@ module _ (p : VertexLists) (r : IsReflexive p) where
             number x z = ring (x ∷ z ∷ []) (plus (var 0) (times (neg (var 1)) (num (negsuc 0)))) (plus (var 0) (var 1)) refl
 
         turned_zero : (i : ℕ) → IsZero y i → dot turned (V i) ≡ slope d
-        turned_zero i z = turned_on i z.0 ∙ ap (λ x. x +ℤ slope d) (times_none (depth d) (slope i) z.1) ∙ none (slope d)
+        turned_zero i z = turned_on i z.0 ∙ ap (λ x. x +ℤ slope d) (zero_out (depth d) (slope i) z.1) ∙ none (slope d)
           where
             none : (x : ℤ) → pos 0 +ℤ x ≡ x
             none x = omega (arith, ints)
@@ -274,20 +256,20 @@ module _ (p : VertexLists) (r : IsReflexive p) where
 
             away_case : (s e f t v : ℤ) → (s *ℤ (t +ℤ pos 1)) ≤ℤ (f *ℤ e) → v ≡ e *ℤ f +ℤ neg_ℤ s *ℤ t → s ≤ℤ v
             away_case s e f t v g h = last (s *ℤ (t +ℤ pos 1)) (s *ℤ t) (f *ℤ e) (e *ℤ f) (neg_ℤ s *ℤ t) g
-                (ring (s ∷ t ∷ []) (times (var 0) (plus (var 1) (num (pos 1)))) (plus (times (var 0) (var 1)) (var 0)) refl) (order f e)
+                (ring (s ∷ t ∷ []) (times (var 0) (plus (var 1) (num (pos 1)))) (plus (times (var 0) (var 1)) (var 0)) refl) (product_exchanged f e)
                 (ring (s ∷ t ∷ []) (times (neg (var 0)) (var 1)) (neg (times (var 0) (var 1))) refl) h
               where
                 last : (u w x z o : ℤ) → u ≤ℤ x → u ≡ w +ℤ s → x ≡ z → o ≡ neg_ℤ w → v ≡ z +ℤ o → s ≤ℤ v
                 last u w x z o h1 h2 h3 h4 h5 = omega (arith, ints, h1, h2, h3, h4, h5)
 
             by : Decided (IsOn i) → slope d ≤ℤ dot turned (V i)
-            by (inl t) = more (depth d *ℤ slope i) (slope d) (dot turned (V i)) (turned_on i t) (times_not_negative (depth d) (slope i) (strict_weak (depth d) (deep d out)) (inner i l t))
+            by (inl t) = more (depth d *ℤ slope i) (slope d) (dot turned (V i)) (turned_on i t) (times_not_negative (depth d) (slope i) (not_negative (depth d) (deep d out)) (inner i l t))
             by (inr n) = away_case (slope d) (depth d) (slope i) (dot m (V i)) (dot turned (V i)) (least i l (l, n)) (turned_is i)
 
         -- a vertex of the facet where the form is positive
         module _ (o : ℕ) (lo : o < length p.vertices) (high : IsHigh y o) where
           rises : pos 0 <ℤ slope o
-          rises = positive_from (slope o) (inner o lo high.0) high.1
+          rises = above_zero (slope o) (inner o lo high.0) high.1
 
           over : slope d <ℤ dot turned (V o)
           over = by (depth d *ℤ slope o) (slope d) (dot turned (V o)) (turned_on o high.0) (positive_product (depth d) (slope o) (deep d out) rises)
@@ -301,7 +283,7 @@ module _ (p : VertexLists) (r : IsReflexive p) where
           next_facet : HasFacet p.dual (V a) (V b) (V c) (V d)
           next_facet =
               supported turned (slope d) turned_least o over a b c d
-              (λ e. free (ap (λ j. det4 (V a) (V j) (V c) q) e ∙ det4-same_rows (V a) (V c) q))
+              (λ e. free (ap (λ j. det4 (V a) (V j) (V c) q) e ∙ same_front (V a) (V c) q))
               (λ e. free (ap (λ j. det4 (V a) (V b) (V j) q) e ∙ det4-same_outer (V a) (V b) q))
               (λ e. free (ap (λ j. det4 (V a) (V b) (V j) q) e ∙ det4-same_last (V a) (V b) q))
               (apart a za.0) (apart b zb.0) (apart c zc.0)
@@ -366,7 +348,7 @@ module _ (p : VertexLists) (r : IsReflexive p) where
       value i = dot y (V i)
 
       value_high : (i : ℕ) → i < length p.vertices → IsHigh y i → pos 0 <ℤ value i
-      value_high i l h = positive_from (value i) (inner i l h.0) h.1
+      value_high i l h = above_zero (value i) (inner i l h.0) h.1
 
       -- a form with more zeros, which is 0 where y is, has fewer vertices where it is not
       fewer : (x : Vector) → ((i : ℕ) → i < length p.vertices → IsZero y i → dot x (V i) ≡ pos 0) → (d : ℕ) → d < length p.vertices → IsHigh y d → dot x (V d) ≡ pos 0 → highs x < highs y
@@ -386,7 +368,7 @@ module _ (p : VertexLists) (r : IsReflexive p) where
         negative_positive x l = omega (arith, ints, l)
 
         decide_falling : (i : ℕ) → Decided (IsFalling i)
-        decide_falling i = decide_both (decide_less i (length p.vertices)) (decide_both (decide_on i) (negative (dot z (V i)) (sign_or_not (dot z (V i)))))
+        decide_falling i = decide_both (decide_less i (length p.vertices)) (decide_both (decide_on i) (negative (dot z (V i)) (negative_or (dot z (V i)))))
           where
             negative : (x : ℤ) → (x <ℤ pos 0) ⊎ (pos 0 ≤ℤ x) → Decided (x <ℤ pos 0)
             negative x (inl l) = inl l
@@ -410,38 +392,38 @@ module _ (p : VertexLists) (r : IsReflexive p) where
           one_is x = dot_combined (fall d) y (value d) z x
 
           one_inner : IsInner one
-          one_inner i l t = by (sign_or_not (dot z (V i)))
+          one_inner i l t = by (negative_or (dot z (V i)))
             where
               from : (v w : ℤ) → v ≡ w → pos 0 ≤ℤ w → pos 0 ≤ℤ v
               from v w e h = omega (arith, ints, e, h)
 
               least_case : (h s f x v : ℤ) → (s *ℤ neg_ℤ x) ≤ℤ (h *ℤ f) → v ≡ f *ℤ h +ℤ s *ℤ x → pos 0 ≤ℤ v
-              least_case h s f x v g e = last (s *ℤ neg_ℤ x) (s *ℤ x) (h *ℤ f) (f *ℤ h) g (ring (s ∷ x ∷ []) (times (var 0) (neg (var 1))) (neg (times (var 0) (var 1))) refl) (order h f) e
+              least_case h s f x v g e = last (s *ℤ neg_ℤ x) (s *ℤ x) (h *ℤ f) (f *ℤ h) g (ring (s ∷ x ∷ []) (times (var 0) (neg (var 1))) (neg (times (var 0) (var 1))) refl) (product_exchanged h f) e
                 where
                   last : (u w q t : ℤ) → u ≤ℤ q → u ≡ neg_ℤ w → q ≡ t → v ≡ t +ℤ w → pos 0 ≤ℤ v
                   last u w q t h1 h2 h3 h4 = omega (arith, ints, h1, h2, h3, h4)
 
               by : (dot z (V i) <ℤ pos 0) ⊎ (pos 0 ≤ℤ dot z (V i)) → pos 0 ≤ℤ dot one (V i)
               by (inr h) =
-                  from _ _ (one_is (V i)) (sum_weak (fall d *ℤ value i) (value d *ℤ dot z (V i)) (times_not_negative (fall d) (value i) (strict_weak (fall d) (fall_positive d falls)) (inner i l t))
+                  from _ _ (one_is (V i)) (sum_not_negative (fall d *ℤ value i) (value d *ℤ dot z (V i)) (times_not_negative (fall d) (value i) (not_negative (fall d) (fall_positive d falls)) (inner i l t))
                   (times_not_negative (value d) (dot z (V i)) (inner d falls.0 falls.1.0) h))
               by (inl h) = least_case (value i) (value d) (fall d) (dot z (V i)) (dot one (V i)) (least i l (l, (t, h))) (one_is (V i))
 
           one_zeros : (i : ℕ) → i < length p.vertices → IsZero y i → dot one (V i) ≡ pos 0
-          one_zeros i l e = one_is (V i) ∙ sum_none _ _ (times_none (fall d) (value i) e.1) (times_none (value d) (dot z (V i)) (zeros i l e))
+          one_zeros i l e = one_is (V i) ∙ sum_none _ _ (zero_out (fall d) (value i) e.1) (zero_out (value d) (dot z (V i)) (zeros i l e))
 
           one_met : dot one (V d) ≡ pos 0
           one_met = one_is (V d) ∙ ring (dot z (V d) ∷ value d ∷ []) (plus (times (neg (var 0)) (var 1)) (times (var 1) (var 0))) (num (pos 0)) refl
 
           one_high : pos 0 <ℤ dot one (V o)
           one_high =
-              by (fall d *ℤ value o) (value d *ℤ dot z (V o)) (dot one (V o)) (one_is (V o)) (positive_product (fall d) (value o) (fall_positive d falls) (value_high o lo high)) (times_none (value d) (dot z (V o)) level)
+              by (fall d *ℤ value o) (value d *ℤ dot z (V o)) (dot one (V o)) (one_is (V o)) (positive_product (fall d) (value o) (fall_positive d falls) (value_high o lo high)) (zero_out (value d) (dot z (V o)) level)
             where
               by : (x w v : ℤ) → v ≡ x +ℤ w → pos 0 <ℤ x → w ≡ pos 0 → pos 0 <ℤ v
               by x w v e l f = omega (arith, ints, e, l, f)
 
           one_some : one ≢ origin
-          one_some e = positive_not_none (dot one (V o)) one_high (ap (λ v. dot v (V o)) e ∙ none (V o))
+          one_some e = positive_some (dot one (V o)) one_high (ap (λ v. dot v (V o)) e ∙ none (V o))
             where
               none : (x : Vector) → dot origin x ≡ pos 0
               none x = omega (arith, ints)
@@ -462,7 +444,7 @@ module _ (p : VertexLists) (r : IsReflexive p) where
               positive x (inr (inr l)) = inr (λ h. absurd (omega (arith, ints, l, h)))
 
           rising_high : (i : ℕ) → IsRising i → IsHigh y i
-          rising_high i f = (f.1.0, (λ e. positive_not_none (dot one (V i)) f.1.1 (one_zeros i f.0 (f.1.0, e))))
+          rising_high i f = (f.1.0, (λ e. positive_some (dot one (V i)) f.1.1 (one_zeros i f.0 (f.1.0, e))))
 
           module _ (t : ℕ) (rises : IsRising t) (lowest : (i : ℕ) → i < length p.vertices → IsRising i → (value t *ℤ dot one (V i)) ≤ℤ (value i *ℤ dot one (V t))) where
             abbrev left : Vector
@@ -472,7 +454,7 @@ module _ (p : VertexLists) (r : IsReflexive p) where
             left_is x = dot_combined (dot one (V t)) y (neg_ℤ (value t)) one x
 
             left_zero_part : (i : ℕ) → dot one (V i) ≡ pos 0 → dot left (V i) ≡ dot one (V t) *ℤ value i
-            left_zero_part i e = left_is (V i) ∙ none (dot one (V t) *ℤ value i) _ (times_none (neg_ℤ (value t)) (dot one (V i)) e)
+            left_zero_part i e = left_is (V i) ∙ none (dot one (V t) *ℤ value i) _ (zero_out (neg_ℤ (value t)) (dot one (V i)) e)
               where
                 none : (x w : ℤ) → w ≡ pos 0 → x +ℤ w ≡ x
                 none x w f = omega (arith, ints, f)
@@ -484,7 +466,7 @@ module _ (p : VertexLists) (r : IsReflexive p) where
                 from v w e h = omega (arith, ints, e, h)
 
                 least_case : (h q f x v : ℤ) → (q *ℤ x) ≤ℤ (h *ℤ f) → v ≡ f *ℤ h +ℤ neg_ℤ q *ℤ x → pos 0 ≤ℤ v
-                least_case h q f x v g e = last (q *ℤ x) (neg_ℤ q *ℤ x) (h *ℤ f) (f *ℤ h) g (ring (q ∷ x ∷ []) (times (neg (var 0)) (var 1)) (neg (times (var 0) (var 1))) refl) (order h f) e
+                least_case h q f x v g e = last (q *ℤ x) (neg_ℤ q *ℤ x) (h *ℤ f) (f *ℤ h) g (ring (q ∷ x ∷ []) (times (neg (var 0)) (var 1)) (neg (times (var 0) (var 1))) refl) (product_exchanged h f) e
                   where
                     last : (u w n t : ℤ) → u ≤ℤ n → w ≡ neg_ℤ u → n ≡ t → v ≡ t +ℤ w → pos 0 ≤ℤ v
                     last u w n t h1 h2 h3 h4 = omega (arith, ints, h1, h2, h3, h4)
@@ -494,11 +476,11 @@ module _ (p : VertexLists) (r : IsReflexive p) where
 
                 by : (pos 0 <ℤ dot one (V i)) ⊎ ((dot one (V i) ≡ pos 0) ⊎ (pos 0 <ℤ neg_ℤ (dot one (V i)))) → pos 0 ≤ℤ dot left (V i)
                 by (inl h) = least_case (value i) (value t) (dot one (V t)) (dot one (V i)) (dot left (V i)) (lowest i l (l, (s, h))) (left_is (V i))
-                by (inr (inl e)) = from _ _ (left_zero_part i e) (times_not_negative (dot one (V t)) (value i) (strict_weak (dot one (V t)) rises.1.1) (inner i l s))
+                by (inr (inl e)) = from _ _ (left_zero_part i e) (times_not_negative (dot one (V t)) (value i) (not_negative (dot one (V t)) rises.1.1) (inner i l s))
                 by (inr (inr h)) = absurd (clash (dot one (V i)) (one_inner i l s) h)
 
             left_zeros : (i : ℕ) → i < length p.vertices → IsZero y i → dot left (V i) ≡ pos 0
-            left_zeros i l e = left_zero_part i (one_zeros i l e) ∙ times_none (dot one (V t)) (value i) e.1
+            left_zeros i l e = left_zero_part i (one_zeros i l e) ∙ zero_out (dot one (V t)) (value i) e.1
 
             left_met : dot left (V t) ≡ pos 0
             left_met = left_is (V t) ∙ ring (dot one (V t) ∷ value t ∷ []) (plus (times (var 0) (var 1)) (times (neg (var 1)) (var 0))) (num (pos 0)) refl
@@ -524,7 +506,7 @@ module _ (p : VertexLists) (r : IsReflexive p) where
                 by : Decided (left ≡ origin) → Claim y
                 by (inl e) = inr (both h (equal_weak (dot left k) (ap (λ v. dot v k) e ∙ none k)))
                 by (inr n) =
-                    ⊎_elim inl (λ g. inr (both h (strict_weak (dot left k) g)))
+                    ⊎_elim inl (λ g. inr (both h (not_negative (dot left k) g)))
                     (smaller left left_inner n (fewer left left_zeros t rises.0 (rising_high t rises) left_met))
 
           -- the claim for y, from those for both parts
@@ -550,13 +532,13 @@ module _ (p : VertexLists) (r : IsReflexive p) where
           none w v e f = omega (arith, ints, e, f)
 
           below : (w v : ℤ) → w ≡ neg_ℤ v → pos 0 ≤ℤ v → v ≢ pos 0 → w <ℤ pos 0
-          below w v e l n = strict (positive_from v l n)
+          below w v e l n = strict (above_zero v l n)
             where
               strict : pos 0 <ℤ v → w <ℤ pos 0
               strict h = omega (arith, ints, e, h)
 
           from : (i : ℕ) × (i < length p.vertices) × IsHigh z i → Claim y
-          from (l, ll, h) = by (sign_or_not (dot z (V l)))
+          from (l, ll, h) = by (negative_or (dot z (V l)))
             where
               by : (dot z (V l) <ℤ pos 0) ⊎ (pos 0 ≤ℤ dot z (V l)) → Claim y
               by (inl f) = split_claim z level zeros l (ll, (h.0, f))
@@ -603,4 +585,4 @@ module _ (p : VertexLists) (r : IsReflexive p) where
             differs (λ i. record { x1 = e1 i; x2 = e2 i; x3 = e3 i; x4 = e4 i })
 
         flat : pos 0 <ℤ dot (difference n m) k → ⊥
-        flat h = positive_not_none (dot (difference n m) k) h (move n m k ∙ (λ i. t i -ℤ on i))
+        flat h = positive_some (dot (difference n m) k) h (move n m k ∙ (λ i. t i -ℤ on i))

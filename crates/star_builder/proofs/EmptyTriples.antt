@@ -19,7 +19,7 @@ use Rattle.star_builder.proofs.FacePlanes.{first_of, second_of, area_wedge, coor
 use Rattle.star_builder.proofs.FaceSimplices.{IsBelowFace}
 use Rattle.star_builder.proofs.MixedPoints.{mixed_point}
 use Rattle.star_builder.proofs.Planar.{wedge, wedge_turn, wedge_outer, wedge_last, not_both}
-use Rattle.star_builder.proofs.Signs.{negative_or, same_or}
+use Rattle.ntfe_nums.proofs.Signs.{negative_or, same_or}
 use Rattle.star_builder.proofs.UsedPoints.{IsUsed, three_weights, used_below}
 
 -- ---- fractions

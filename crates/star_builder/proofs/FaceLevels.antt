@@ -6,7 +6,7 @@ use Rattle.std.proofs.lemmas.List.Elements.{All-contains}
 use Rattle.ntfe_nums.specs.Vectors.{Vector, multiple, coordinate, area, det4, dot}
 use Rattle.ntfe_nums.proofs.Ring.{Expression, ring}
 use Rattle.ntfe_nums.proofs.Ring.Expression.{var, num, plus, minus, times, neg}
-use Rattle.ntfe_nums.proofs.DetLemmas.{det4-same_rows}
+use Rattle.ntfe_nums.proofs.Exchanges.{same_front}
 use Rattle.ntfe_model.specs.Pairs.{entry}
 use Rattle.ntfe_model.specs.Reflexive.{IsTight}
 use Rattle.ntfe_model.specs.Points.{place_of_point}
@@ -121,7 +121,7 @@ module _ (q : ℕ × ℕ) (o e f : Vector) (positive : pos 0 <ℤ area q o e f) 
       let i = no_weight (det4 a b d d) (sa -ℤ sb) (det4 a b d c) (independent_swap34 a b c d n) (weight3 m a b c d d s) in
       let j = no_weight (det4 a b d d) (ua -ℤ ub) (det4 a b d c) (independent_swap34 a b c d n) (weight3 v a b c d d u) in
       let same : a ≡ b = ea ∙ (λ k. reached o e f (equal sa sb i k) (equal ua ub j k)) ∙ sym eb in
-      n (ap (λ v. det4 v b c d) same ∙ det4-same_rows b c d)
+      n (ap (λ v. det4 v b c d) same ∙ same_front b c d)
     where
       flat : turned sa ua sb ub sc uc ≡ pos 0
       flat =

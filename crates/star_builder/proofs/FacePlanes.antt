@@ -10,6 +10,7 @@ use Rattle.ntfe_nums.specs.Vectors.{Vector, numbers, coordinate, area, cofactors
 use Rattle.ntfe_nums.proofs.Ring.{ring}
 use Rattle.ntfe_nums.proofs.Ring.Expression.{var, num, plus, minus, times, neg}
 use Rattle.ntfe_nums.proofs.DetLemmas.{det4-cofactors}
+use Rattle.ntfe_nums.proofs.Exchanges.{swap_last, second_last, first_last}
 use Rattle.ntfe_model.specs.Pairs.{entry}
 use Rattle.ntfe_model.specs.Reflexive.{IsTightOnFour, at}
 use Rattle.ntfe_model.specs.Points.{place_of_point}
@@ -18,7 +19,7 @@ use Rattle.ntfe_model.specs.Charts.{patch_at, axes, IsOf}
 use Rattle.ntfe_model.proofs.GeometryPoints.{point_place}
 use Rattle.ntfe_model.proofs.PlaneNumbers.{zero_factor}
 use Rattle.ntfe_model.proofs.UnitTriples.{area_of}
-use Rattle.star_builder.proofs.FourWeights.{Weights, IsMixOf, cramer, cramer_weights, dot_mix, cancel_other, weight1, weight2, weight3, weight4, det4-first_last, det4-second_last, det4-swap34}
+use Rattle.star_builder.proofs.FourWeights.{Weights, IsMixOf, cramer, cramer_weights, dot_mix, cancel_other, weight1, weight2, weight3, weight4}
 use Rattle.star_builder.proofs.FacetPoints.{zero_on_four, not_always_zero, entry_in}
 use Rattle.star_builder.proofs.LeastSlope.{IsOutside, some_outside, distance, outside_far, face_point_tight, number_first}
 use Rattle.star_builder.proofs.Planar.{wedge, wedge_turn, lift, not_both}
@@ -248,11 +249,11 @@ module _ (g : Shape) (s : IsShape g) (f : ℕ) (within : f < length g.faces) (v 
               let t = plane_weights a b c p in
               let e = plane_mix (spot d) in
               by (wedged a b c) whole_volume (volume spot v p b c d) (volume spot v a p c d) (volume spot v a b p d) (volume spot v a b c p) (wedged b c p) (wedged c a p) (wedged a b p) (v p) (v a) (v b) (v c) (v d)
-              (ap (λ z. wedged a b c *ℤ z) (turned _ _ (det4-first_last (spot p) (spot b) (spot c) (spot d))) ∙ out (wedged a b c) (det4 (spot b) (spot c) (spot d) (spot p)) ∙ ap neg_ℤ (weight1 t (spot a) (spot b) (spot c) (spot d) (spot p) e)
-              ∙ sym (out (wedged b c p) (det4 (spot b) (spot c) (spot d) (spot a))) ∙ ap (λ z. wedged b c p *ℤ z) (sym (turned _ _ (det4-first_last (spot a) (spot b) (spot c) (spot d)))))
-              (ap (λ z. wedged a b c *ℤ z) (sym (det4-second_last (spot a) (spot p) (spot c) (spot d))) ∙ weight2 t (spot a) (spot b) (spot c) (spot d) (spot p) e ∙ ap (λ z. wedged c a p *ℤ z) (det4-second_last (spot a) (spot b) (spot c) (spot d)))
-              (ap (λ z. wedged a b c *ℤ z) (turned _ _ (det4-swap34 (spot a) (spot b) (spot p) (spot d))) ∙ out (wedged a b c) (det4 (spot a) (spot b) (spot d) (spot p)) ∙ ap neg_ℤ (weight3 t (spot a) (spot b) (spot c) (spot d) (spot p) e)
-              ∙ sym (out (wedged a b p) (det4 (spot a) (spot b) (spot d) (spot c))) ∙ ap (λ z. wedged a b p *ℤ z) (sym (turned _ _ (det4-swap34 (spot a) (spot b) (spot c) (spot d)))))
+              (ap (λ z. wedged a b c *ℤ z) (turned _ _ (first_last (spot p) (spot b) (spot c) (spot d))) ∙ out (wedged a b c) (det4 (spot b) (spot c) (spot d) (spot p)) ∙ ap neg_ℤ (weight1 t (spot a) (spot b) (spot c) (spot d) (spot p) e)
+              ∙ sym (out (wedged b c p) (det4 (spot b) (spot c) (spot d) (spot a))) ∙ ap (λ z. wedged b c p *ℤ z) (sym (turned _ _ (first_last (spot a) (spot b) (spot c) (spot d)))))
+              (ap (λ z. wedged a b c *ℤ z) (sym (second_last (spot a) (spot p) (spot c) (spot d))) ∙ weight2 t (spot a) (spot b) (spot c) (spot d) (spot p) e ∙ ap (λ z. wedged c a p *ℤ z) (second_last (spot a) (spot b) (spot c) (spot d)))
+              (ap (λ z. wedged a b c *ℤ z) (turned _ _ (swap_last (spot a) (spot b) (spot p) (spot d))) ∙ out (wedged a b c) (det4 (spot a) (spot b) (spot d) (spot p)) ∙ ap neg_ℤ (weight3 t (spot a) (spot b) (spot c) (spot d) (spot p) e)
+              ∙ sym (out (wedged a b p) (det4 (spot a) (spot b) (spot d) (spot c))) ∙ ap (λ z. wedged a b p *ℤ z) (sym (turned _ _ (swap_last (spot a) (spot b) (spot c) (spot d)))))
               plane_volume
             where
               turned : (y z : ℤ) → y ≡ neg_ℤ z → z ≡ neg_ℤ y

@@ -15,7 +15,7 @@ use Rattle.ntfe_model.specs.Points.{place_of_point}
 use Rattle.ntfe_model.specs.Shapes.{Shape, IsShape, face_at}
 use Rattle.ntfe_model.specs.Charts.{patch_at, IsOf}
 use Rattle.ntfe_model.proofs.GeometryPoints.{point_within}
-use Rattle.ntfe_model.proofs.PlaneNumbers.{positive_product, positive_factor, zero_factor}
+use Rattle.ntfe_model.proofs.PlaneNumbers.{positive_factor, zero_factor}
 use Rattle.ntfe_model.proofs.Triples.{Decided}
 use Rattle.star_builder.proofs.FourWeights.{dot_mix, cancel_other}
 use Rattle.star_builder.proofs.FacePlanes.{first_of, second_of, plane_weights, wedge_sum, outside_apart, plane_mix, plane_volume, plane_rise}
@@ -25,7 +25,7 @@ use Rattle.star_builder.proofs.LeastSlope.{IsOutside, some_outside, distance, ou
 use Rattle.star_builder.proofs.LowSimplices.{IsLow, IsGeneric}
 use Rattle.star_builder.proofs.Planar.{wedge, lift, IsLower, AreNeverLevel, lower_over, not_both}
 use Rattle.star_builder.proofs.Rises.{gap, gap_multiple, gap_tilt, rise, rise_gap, rise_first, rise_second, rise_third, through, volume}
-use Rattle.star_builder.proofs.Signs.{factor_not_negative, product_not_negative, square_not_negative, square_positive, zero_out}
+use Rattle.ntfe_nums.proofs.Signs.{factor_not_negative, product_not_negative, square_not_negative, square_positive, zero_out, positive_product}
 use Rattle.star_builder.proofs.Supports.{tight_points, tight_number, tight_on, in_tight, low_support}
 use Rattle.star_builder.proofs.Tilts.{IsTiltedAlong, tilt_along}
 

@@ -25,8 +25,8 @@ use Rattle.star_builder.proofs.FacePlanes.{first_of, second_of, area_wedge, wedg
 use Rattle.star_builder.proofs.FaceSimplices.{IsBelowFace, never_level}
 use Rattle.star_builder.proofs.Inducing.{area_exists}
 use Rattle.star_builder.proofs.LowSimplices.{IsGeneric}
-use Rattle.star_builder.proofs.Planar.{wedge, lift, wedge_turn, wedge_swap, wedge_outer, wedge_last, left_apart, step_lower, reverse_lower, not_both, weaker}
-use Rattle.star_builder.proofs.Signs.{above_zero, factor_not_negative, negative_or, product_not_negative, zero_or}
+use Rattle.star_builder.proofs.Planar.{wedge, lift, wedge_turn, wedge_swap, wedge_outer, wedge_last, left_apart, step_lower, reverse_lower, not_both}
+use Rattle.ntfe_nums.proofs.Signs.{above_zero, factor_not_negative, negative_or, product_not_negative, zero_or, not_negative}
 use Rattle.star_builder.proofs.UsedPoints.{IsUsed, three_weights, used_below}
 
 -- ---- points between two others
@@ -105,9 +105,9 @@ module _ (g : Shape) (s : IsShape g) (f : ℕ) (within : f < length g.faces) (v 
   no_between a b c l p op pa pb seg =
       ⊎_elim pa (λ q. ⊎_elim pb (λ e. not_both (wedge X Y v a b c) l.left (ap (wedge X Y v a b) (sym e) ∙ level)) q)
       (empty_triple g s f within v used a b c l p op
-      (part (wedge X Y v b c p) (pos seg.n -ℤ pos seg.s) (wedge X Y v a b c) (pos seg.s) (pos 0) (between b c) first_low (weaker (wedge X Y v a b c) l.left) (omega (arith, ints)) (omega (arith, ints))
+      (part (wedge X Y v b c p) (pos seg.n -ℤ pos seg.s) (wedge X Y v a b c) (pos seg.s) (pos 0) (between b c) first_low (not_negative (wedge X Y v a b c) l.left) (omega (arith, ints)) (omega (arith, ints))
       (wedge_turn X Y v a b c) (wedge_outer X Y v b c))
-      (part (wedge X Y v c a p) (pos seg.n -ℤ pos seg.s) (pos 0) (pos seg.s) (wedge X Y v a b c) (between c a) first_low (omega (arith, ints)) (omega (arith, ints)) (weaker (wedge X Y v a b c) l.left)
+      (part (wedge X Y v c a p) (pos seg.n -ℤ pos seg.s) (pos 0) (pos seg.s) (wedge X Y v a b c) (between c a) first_low (omega (arith, ints)) (omega (arith, ints)) (not_negative (wedge X Y v a b c) l.left)
       (wedge_last X Y v c a) (sym (wedge_turn X Y v c a b) ∙ refl))
       (zero (wedge X Y v a b p) level))
     where
@@ -210,7 +210,7 @@ module _ (g : Shape) (s : IsShape g) (f : ℕ) (within : f < length g.faces) (v 
     beyond_second h =
         by (k *ℤ v p) (l1 *ℤ v a) (l2 *ℤ v b) (l3 *ℤ v c) ((pos 0 -ℤ l1) *ℤ v a) (third_none (v c)) (minus_out l1 (v a))
         (used_below g.points v b (used b ob) p a a (point_within g s f within p op) (point_within g s f within a oa) (point_within g s f within a oa) l2 k (pos 0 -ℤ l1) (pos 0)
-        (weaker k left) (turned l1 h) (omega (arith, ints)) (other k l1 l2 size_is) (spot c)
+        (not_negative k left) (turned l1 h) (omega (arith, ints)) (other k l1 l2 size_is) (spot c)
         (λ i. record {
           x1 = from_second (spot a).x1 (spot b).x1 (spot c).x1 (spot p).x1 (ap (λ u. u.x1) mix) i;
           x2 = from_second (spot a).x2 (spot b).x2 (spot c).x2 (spot p).x2 (ap (λ u. u.x2) mix) i;
@@ -231,7 +231,7 @@ module _ (g : Shape) (s : IsShape g) (f : ℕ) (within : f < length g.faces) (v 
     beyond_first h =
         by (k *ℤ v p) (l1 *ℤ v a) (l2 *ℤ v b) (l3 *ℤ v c) ((pos 0 -ℤ l2) *ℤ v b) (third_none (v c)) (minus_out l2 (v b))
         (used_below g.points v a (used a oa) p b b (point_within g s f within p op) (point_within g s f within b ob) (point_within g s f within b ob) l1 k (pos 0 -ℤ l2) (pos 0)
-        (weaker k left) (turned l2 h) (omega (arith, ints)) (other k l1 l2 size_is) (spot c)
+        (not_negative k left) (turned l2 h) (omega (arith, ints)) (other k l1 l2 size_is) (spot c)
         (λ i. record {
           x1 = from_first (spot a).x1 (spot b).x1 (spot c).x1 (spot p).x1 (ap (λ u. u.x1) mix) i;
           x2 = from_first (spot a).x2 (spot b).x2 (spot c).x2 (spot p).x2 (ap (λ u. u.x2) mix) i;

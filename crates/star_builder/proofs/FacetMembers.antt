@@ -11,8 +11,8 @@ use Rattle.ntfe_model.specs.Points.{place_of_point}
 use Rattle.ntfe_model.specs.Reflexive.{IsTight}
 use Rattle.ntfe_model.specs.declared.point.Point.{Point}
 use Rattle.ntfe_model.proofs.Listings.{Contains-cases, Contains-none}
-use Rattle.ntfe_model.proofs.PlaneNumbers.{positive_product}
-use Rattle.star_builder.proofs.Exchanges.{swap_first, swap_middle, swap_last, same_first, same_second, same_third}
+use Rattle.ntfe_nums.proofs.Exchanges.{swap_first, swap_middle, swap_last, same_first, same_second, same_third}
+use Rattle.ntfe_nums.proofs.Signs.{positive_product}
 use Rattle.star_builder.proofs.LowSimplices.{IsLow, IsGeneric, turned_not_zero}
 use Rattle.star_builder.proofs.Rises.{gap, volume}
 use Rattle.star_builder.proofs.Supports.{tight_points, tight_on, low_support}

@@ -3,6 +3,7 @@ use Rattle.std.proofs.Common.{◌≡◌, ◌≢◌, ℕ, ◌<◌, ◌⊎◌, inl
 use Rattle.std.specs.Prelude.{Contains, slice_index}
 use Rattle.std.proofs.lemmas.Int.{ints}
 use Rattle.ntfe_nums.specs.Vectors.{Vector, det4}
+use Rattle.ntfe_nums.proofs.Exchanges.{same_front}
 use Rattle.ntfe_model.specs.Lists.{IsNumberOf}
 use Rattle.ntfe_model.specs.Points.{place_of_point}
 use Rattle.ntfe_model.specs.Shapes.{Shape, IsShape}
@@ -23,7 +24,6 @@ use Rattle.star_builder.proofs.CentreTriples.{IsCornerOf}
 use Rattle.star_builder.proofs.FaceLevels.{face_apart}
 use Rattle.star_builder.proofs.LeastSlope.{lower_cell}
 use Rattle.star_builder.proofs.Orthogonal.{four_in}
-use Rattle.ntfe_nums.proofs.DetLemmas.{det4-same_rows}
 use Rattle.star_builder.proofs.Edges.{det4-same_outer, det4-same_last}
 use Rattle.star_builder.proofs.Inducing.{some_triple, star_induces}
 use Rattle.star_builder.proofs.PointFaces.{point_on_face}
@@ -85,7 +85,7 @@ module _ (g : Shape) (s : IsShape g) (choice : List ℕ) (choices : IsChoice g c
       by (d, na, nb, nc, cell) = found (cell_listed g.pair.dual g.points w order t.a t.b t.c d ba ca cb na nb nc cell)
         where
           ba : t.b ≢ t.a
-          ba e = cell.independent (ap (λ j. det4 (spot t.a) (spot j) (spot t.c) (spot d)) e ∙ det4-same_rows (spot t.a) (spot t.c) (spot d))
+          ba e = cell.independent (ap (λ j. det4 (spot t.a) (spot j) (spot t.c) (spot d)) e ∙ same_front (spot t.a) (spot t.c) (spot d))
 
           ca : t.c ≢ t.a
           ca e = cell.independent (ap (λ j. det4 (spot t.a) (spot t.b) (spot j) (spot d)) e ∙ det4-same_outer (spot t.a) (spot t.b) (spot d))

@@ -8,10 +8,11 @@ use Rattle.std.proofs.lemmas.List.Folds.{Any-from_list_any, list_any-from_Any}
 use Rattle.ntfe_nums.specs.Vectors.{Vector, numbers, vector_sum, multiple, coordinate, area}
 use Rattle.ntfe_nums.proofs.Ring.{ring}
 use Rattle.ntfe_nums.proofs.Ring.Expression.{var, num, plus, minus, times, neg}
+use Rattle.ntfe_nums.proofs.Signs.{positive_product}
 use Rattle.ntfe_model.specs.Pairs.{IsSmall}
 use Rattle.ntfe_model.specs.Charts.{Spot, Patch, axes, axis_pairs, first_that_spans, spans, place, spot_numbers, IsOf, turn, IsOnSegment, IsStep, AreApart}
 use Rattle.ntfe_model.proofs.Listings.{Contains-here, Contains-there, Contains-cases, Contains-none}
-use Rattle.ntfe_model.proofs.PlaneNumbers.{positive_product, positive_factor, cancel, sign_not_right, zero_factor}
+use Rattle.ntfe_model.proofs.PlaneNumbers.{positive_factor, cancel, sign_not_right, zero_factor}
 use Rattle.ntfe_model.proofs.Triples.{Decided, decide_number}
 use Rattle.ntfe_model.proofs.UnitTriples.{area_of}
 use Rattle.star_builder.proofs.Leading.{three_signs}

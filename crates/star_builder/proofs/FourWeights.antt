@@ -4,7 +4,8 @@ use Rattle.std.proofs.lemmas.Int.{ints}
 use Rattle.ntfe_nums.specs.Vectors.{Vector, vector_sum, multiple, dot, det4, cofactors}
 use Rattle.ntfe_nums.proofs.Ring.{Expression, ring}
 use Rattle.ntfe_nums.proofs.Ring.Expression.{var, num, plus, minus, times, neg}
-use Rattle.ntfe_nums.proofs.DetLemmas.{Row, row, dotE, det4E, normalE, of4, det4-cofactors}
+use Rattle.ntfe_nums.proofs.DetLemmas.{Row, row, dotE, det4E, normalE, of4, det4-cofactors, of5}
+use Rattle.ntfe_nums.proofs.Exchanges.{swap_first, swap_middle, swap_last, second_last, first_last}
 use Rattle.ntfe_model.proofs.PlaneNumbers.{cancel}
 use Rattle.star_builder.proofs.Leading.{Field, IsUp, up_same, up_times, up_factor}
 
@@ -55,22 +56,6 @@ dot_mix u m a b c d p e =
     ∙ (λ j. dot_multiple u b m.l2 j +ℤ (dot_sum u (multiple m.l3 c) (multiple m.l4 d) ∙ (λ n. dot_multiple u c m.l3 n +ℤ dot_multiple u d m.l4 n)) j)) i)
 
 -- ---- determinants in another order
-
-pub det4-swap23 : (a b c d : Vector) → det4 a c b d ≡ neg_ℤ (det4 a b c d)
-unfolding det4
-det4-swap23 a b c d = ring (of4 a b c d) (det4E (row 0) (row 8) (row 4) (row 12)) (neg (det4E (row 0) (row 4) (row 8) (row 12))) refl
-
-pub det4-swap34 : (a b c d : Vector) → det4 a b d c ≡ neg_ℤ (det4 a b c d)
-unfolding det4
-det4-swap34 a b c d = ring (of4 a b c d) (det4E (row 0) (row 4) (row 12) (row 8)) (neg (det4E (row 0) (row 4) (row 8) (row 12))) refl
-
-pub det4-second_last : (a b c d : Vector) → det4 a c d b ≡ det4 a b c d
-unfolding det4
-det4-second_last a b c d = ring (of4 a b c d) (det4E (row 0) (row 8) (row 12) (row 4)) (det4E (row 0) (row 4) (row 8) (row 12)) refl
-
-pub det4-first_last : (a b c d : Vector) → det4 b c d a ≡ neg_ℤ (det4 a b c d)
-unfolding det4
-det4-first_last a b c d = ring (of4 a b c d) (det4E (row 4) (row 8) (row 12) (row 0)) (neg (det4E (row 0) (row 4) (row 8) (row 12))) refl
 
 -- ---- a vector orthogonal to three
 
@@ -154,18 +139,14 @@ not_negated x y e n z = n (omega (arith, ints, e, z))
 not_same : (x y : ℤ) → x ≡ y → y ≢ pos 0 → x ≢ pos 0
 not_same x y e n z = n (sym e ∙ z)
 
-pub det4-swap12 : (a b c d : Vector) → det4 b a c d ≡ neg_ℤ (det4 a b c d)
-unfolding det4
-det4-swap12 a b c d = ring (of4 a b c d) (det4E (row 4) (row 0) (row 8) (row 12)) (neg (det4E (row 0) (row 4) (row 8) (row 12))) refl
-
 pub independent_swap12 : (a b c d : Vector) → det4 a b c d ≢ pos 0 → det4 b a c d ≢ pos 0
-independent_swap12 a b c d n = not_negated (det4 b a c d) (det4 a b c d) (det4-swap12 a b c d) n
+independent_swap12 a b c d n = not_negated (det4 b a c d) (det4 a b c d) (swap_first a b c d) n
 
 pub independent_swap23 : (a b c d : Vector) → det4 a b c d ≢ pos 0 → det4 a c b d ≢ pos 0
-independent_swap23 a b c d n = not_negated (det4 a c b d) (det4 a b c d) (det4-swap23 a b c d) n
+independent_swap23 a b c d n = not_negated (det4 a c b d) (det4 a b c d) (swap_middle a b c d) n
 
 pub independent_swap34 : (a b c d : Vector) → det4 a b c d ≢ pos 0 → det4 a b d c ≢ pos 0
-independent_swap34 a b c d n = not_negated (det4 a b d c) (det4 a b c d) (det4-swap34 a b c d) n
+independent_swap34 a b c d n = not_negated (det4 a b d c) (det4 a b c d) (swap_last a b c d) n
 
 -- two mixtures that give one point are proportional
 pub record AreProportional (m n : Weights) : Type 0 where
@@ -176,16 +157,13 @@ pub record AreProportional (m n : Weights) : Type 0 where
 
 pub proportional : (m n : Weights) (a b c d p : Vector) → det4 a b c d ≢ pos 0 → IsMixOf m a b c d p → IsMixOf n a b c d p → AreProportional m n
 proportional m n a b c d p i e f = record {
-  first = proportion m.k m.l1 n.k n.l1 (det4 b c d p) (det4 b c d a) (not_negated (det4 b c d a) (det4 a b c d) (det4-first_last a b c d) i) (weight1 m a b c d p e) (weight1 n a b c d p f);
-  second = proportion m.k m.l2 n.k n.l2 (det4 a c d p) (det4 a c d b) (not_same (det4 a c d b) (det4 a b c d) (det4-second_last a b c d) i) (weight2 m a b c d p e) (weight2 n a b c d p f);
-  third = proportion m.k m.l3 n.k n.l3 (det4 a b d p) (det4 a b d c) (not_negated (det4 a b d c) (det4 a b c d) (det4-swap34 a b c d) i) (weight3 m a b c d p e) (weight3 n a b c d p f);
+  first = proportion m.k m.l1 n.k n.l1 (det4 b c d p) (det4 b c d a) (not_negated (det4 b c d a) (det4 a b c d) (first_last a b c d) i) (weight1 m a b c d p e) (weight1 n a b c d p f);
+  second = proportion m.k m.l2 n.k n.l2 (det4 a c d p) (det4 a c d b) (not_same (det4 a c d b) (det4 a b c d) (second_last a b c d) i) (weight2 m a b c d p e) (weight2 n a b c d p f);
+  third = proportion m.k m.l3 n.k n.l3 (det4 a b d p) (det4 a b d c) (not_negated (det4 a b d c) (det4 a b c d) (swap_last a b c d) i) (weight3 m a b c d p e) (weight3 n a b c d p f);
   fourth = proportion m.k m.l4 n.k n.l4 (det4 a b c p) (det4 a b c d) i (weight4 m a b c d p e) (weight4 n a b c d p f);
 }
 
 -- ---- Cramer's rule
-
-abbrev of5 : Vector → Vector → Vector → Vector → Vector → List ℤ
-of5 a b c d p = a.x1 ∷ a.x2 ∷ a.x3 ∷ a.x4 ∷ b.x1 ∷ b.x2 ∷ b.x3 ∷ b.x4 ∷ c.x1 ∷ c.x2 ∷ c.x3 ∷ c.x4 ∷ d.x1 ∷ d.x2 ∷ d.x3 ∷ d.x4 ∷ p.x1 ∷ p.x2 ∷ p.x3 ∷ p.x4 ∷ []
 
 abbrev cramerE : (Row → Expression) → Expression
 cramerE x =

@@ -10,8 +10,7 @@ use Rattle.ntfe_nums.proofs.Ring.Expression.{var, num, minus, plus, times}
 use Rattle.ntfe_nums.proofs.DetLemmas.{row, dotE}
 use Rattle.ntfe_model.specs.Pairs.{VertexLists}
 use Rattle.ntfe_model.specs.Reflexive.{IsTight, IsReflexive, at}
-use Rattle.ntfe_model.proofs.PlaneNumbers.{positive_product}
-use Rattle.star_builder.proofs.Exchanges.{cramer_form, swap_first, swap_middle, swap_last}
+use Rattle.ntfe_nums.proofs.Exchanges.{cramer_form, swap_first, swap_middle, swap_last}
 use Rattle.star_builder.proofs.Flanks.{numbers_of, has_number, number_within, IsFlank, facet_through}
 use Rattle.star_builder.proofs.LowSimplices.{turned_not_zero}
 use Rattle.star_builder.proofs.Normals.{cancel_factor}
@@ -20,7 +19,7 @@ use Rattle.star_builder.proofs.Rises.{gap, rise, rise_gap, rise_first, rise_seco
 use Rattle.star_builder.proofs.Spanning.{spot, weight_of, facet_four, spanning_size, spanning_form}
 use Rattle.star_builder.proofs.Tilts.{IsUnder, IsTiltedAlong, tilt_along, IsThrice, three_tilts}
 use Rattle.star_builder.proofs.Searches.{some_not_zero}
-use Rattle.star_builder.proofs.Signs.{product_not_negative, product_not_positive, sign_of, zero_or, zero_out}
+use Rattle.ntfe_nums.proofs.Signs.{product_not_negative, product_not_positive, sign_of, zero_or, zero_out, positive_product}
 
 module _ (p : VertexLists) (r : IsReflexive p) (m : Vector) (within : Contains p.dual m) (x : Vector) (k : ℤ) (positive : pos 0 <ℤ k) (level : dot m x ≡ pos 0 -ℤ k)
     (inside : (f : Vector) → Contains p.dual f → pos 0 ≤ℤ (k +ℤ dot f x)) where

@@ -1,7 +1,8 @@
 -- Each item of a two-face has a triple, and a star of heights that extend a choice induces it.
-use Rattle.std.proofs.Common.{◌≡◌, ◌≢◌, ℕ, suc, ◌<◌, ◌≤◌, ◌⊎◌, inl, inr, refl, sym, ap, ◌∙◌, subst, arith, ℤ, pos, List, [], ◌∷◌, map, length}
+use Rattle.std.proofs.Common.{◌≡◌, ◌≢◌, ℕ, suc, ◌<◌, ◌≤◌, ◌⊎◌, inl, inr, refl, sym, ap, ◌∙◌, subst, arith, ℤ, pos, List, length}
 use Rattle.std.specs.Prelude.{Contains}
 use Rattle.ntfe_nums.specs.Vectors.{Vector, dot, area}
+use Rattle.ntfe_model.proofs.Lists.{Contains-map, Contains-from_map}
 use Rattle.ntfe_model.specs.Reflexive.{IsTight}
 use Rattle.ntfe_model.specs.Pairs.{entry}
 use Rattle.ntfe_model.specs.Points.{place_of_point, MeetInTwoFace}
@@ -11,22 +12,13 @@ use Rattle.ntfe_model.specs.Triangulations.{IsFine}
 use Rattle.ntfe_model.specs.Choices.{Extends}
 use Rattle.ntfe_model.specs.Stars.{IsOrder, IsStar, Induces}
 use Rattle.ntfe_model.specs.declared.triangle.Triangle.{Triangle}
-use Rattle.ntfe_model.proofs.Listings.{Contains-here, Contains-there, Contains-cases, Contains-none}
 use Rattle.ntfe_model.proofs.GeometryPoints.{numbers_of, point_small, point_within, point_place}
 use Rattle.ntfe_model.proofs.UnitTriples.{area_of}
 use Rattle.star_builder.proofs.FacetPoints.{vertex_number}
 use Rattle.star_builder.proofs.FaceLevels.{face_apart}
-use Rattle.star_builder.proofs.LeastSlope.{face_is, tight_face_point, Contains-map}
+use Rattle.star_builder.proofs.LeastSlope.{face_is, tight_face_point}
 use Rattle.star_builder.proofs.FirstStep.{HaveArea, axes_span, step_exists}
 use Rattle.star_builder.proofs.StarTriples.{star_leaves}
-
-from_map : {X Y : Type 0} (f : X → Y) (xs : List X) (y : Y) → Contains (map f xs) y → (x : X) × Contains xs x × (y ≡ f x)
-from_map f [] y c = Contains-none y c
-from_map {X} {Y} f (x ∷ xs) y c = by (Contains-cases y (f x) (map f xs) c) (from_map f xs y)
-  where
-    by : (y ≡ f x) ⊎ Contains (map f xs) y → (Contains (map f xs) y → (z : X) × Contains xs z × (y ≡ f z)) → (z : X) × Contains (x ∷ xs) z × (y ≡ f z)
-    by (inl e) rest = (x, Contains-here x x xs refl, e)
-    by (inr d) rest = let r = rest d in (r.0, Contains-there r.0 x xs r.1, r.2)
 
 -- a pair of coordinates is one of the six
 pair_listed : (i j : ℕ) → 1 ≤ i → i < j → j ≤ 4 → Contains axis_pairs (i, j)
@@ -57,7 +49,7 @@ module _ (g : Shape) (s : IsShape g) (f : ℕ) (within : f < length g.faces) whe
   -- a spot of the patch is a point of the face in its place
   spot_from : (a : Spot) → Contains (patch_at g f) a → (k : ℕ) × IsOf (patch_at g f) k × (place (patch_at g f) k ≡ a.place)
   spot_from a c =
-      let r = from_map spot_of (face_at g f).points a c in
+      let r = Contains-from_map spot_of (face_at g f).points a c in
       let o : IsOf (patch_at g f) r.0 = subst (λ (ks : List ℕ). Contains ks r.0) (sym (numbers_of (face_at g f).points (place_of_point g.points))) r.1 in
       (r.0, o, point_place g s f within r.0 o ∙ ap (λ b. b.place) (sym r.2))
 

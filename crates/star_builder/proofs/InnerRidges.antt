@@ -9,13 +9,13 @@ use Rattle.ntfe_nums.proofs.Ring.{ring}
 use Rattle.ntfe_nums.proofs.Ring.Expression.{var, times, neg}
 use Rattle.ntfe_model.specs.Points.{place_of_point}
 use Rattle.ntfe_model.specs.declared.point.Point.{Point}
-use Rattle.ntfe_model.proofs.PlaneNumbers.{positive_product, negative_product}
-use Rattle.star_builder.proofs.Exchanges.{same_first, same_second, same_third}
+use Rattle.ntfe_model.proofs.PlaneNumbers.{negative_product}
+use Rattle.ntfe_nums.proofs.Exchanges.{same_first, same_second, same_third}
 use Rattle.star_builder.proofs.LowSimplices.{IsLow, IsGeneric, low_apart, low_middle, low_first}
 use Rattle.star_builder.proofs.Rises.{gap, gap_multiple, rise, rise_gap, rise_first, rise_second, rise_third, rise_fourth, rise_exchange, through, volume}
 use Rattle.star_builder.proofs.Supports.{tight_points, tight_number, tight_on, in_tight, low_support}
 use Rattle.star_builder.proofs.Tilts.{IsTilted, tilt_about, keeps_zero}
-use Rattle.star_builder.proofs.Signs.{negative_or, product_not_negative, same_or, square_not_negative, square_positive, zero_out}
+use Rattle.ntfe_nums.proofs.Signs.{negative_or, product_not_negative, same_or, square_not_negative, square_positive, zero_out, positive_product}
 
 -- what is on the side of z lies, as z does, on the other side of v
 across : (v z y : ℤ) → (v *ℤ z) <ℤ pos 0 → pos 0 <ℤ (z *ℤ y) → (v *ℤ y) <ℤ pos 0

@@ -4,9 +4,10 @@
 use Rattle.std.proofs.Common.{◌≡◌, ◌≢◌, ℕ, zero, suc, ◌⊎◌, inl, inr, ⊎_elim, refl, sym, ap, ◌∙◌, subst, arith, ℤ, pos, negsuc, ◌+ℤ◌, ◌*ℤ◌, ◌<ℤ◌, ◌≤ℤ◌, neg_ℤ, List, [], ◌∷◌, map}
 use Rattle.std.specs.Prelude.{Contains, ⊤}
 use Rattle.std.proofs.lemmas.Int.{ints}
+use Rattle.ntfe_nums.proofs.Signs.{zero_out, positive_product}
 use Rattle.ntfe_model.specs.Stars.{IsFirstPositive}
 use Rattle.ntfe_model.proofs.Listings.{Contains-cases, Contains-none}
-use Rattle.ntfe_model.proofs.PlaneNumbers.{positive_product, positive_factor, zero_factor}
+use Rattle.ntfe_model.proofs.PlaneNumbers.{positive_factor, zero_factor}
 use Rattle.ntfe_model.proofs.Triples.{Decided}
 
 -- a height for each number
@@ -26,9 +27,6 @@ pub three_signs : (z : ℤ) → (pos 0 <ℤ z) ⊎ ((z ≡ pos 0) ⊎ (pos 0 <�
 three_signs (pos zero) = inr (inl refl)
 three_signs (pos (suc n)) = inl (omega (arith, ints))
 three_signs (negsuc n) = inr (inr (omega (arith, ints)))
-
-zero_product : (k z : ℤ) → z ≡ pos 0 → k *ℤ z ≡ pos 0
-zero_product k z e = ap (λ x. k *ℤ x) e ∙ (omega (arith, ints))
 
 other_factor : (k z : ℤ) → pos 0 <ℤ k → k *ℤ z ≡ pos 0 → z ≡ pos 0
 other_factor k z l e = ⊎_elim (λ q. absurd (omega (arith, ints, l, q))) (λ q. q) (zero_factor k z e)
@@ -62,7 +60,7 @@ up_times (h ∷ hs) k f l p = by (up_times hs k f l) p
   where
     by : (IsUp hs f → IsUp hs (λ g. k *ℤ f g)) → (pos 0 <ℤ f h) ⊎ ((f h ≡ pos 0) × IsUp hs f) → (pos 0 <ℤ (k *ℤ f h)) ⊎ ((k *ℤ f h ≡ pos 0) × IsUp hs (λ g. k *ℤ f g))
     by rest (inl m) = inl (positive_product k (f h) l m)
-    by rest (inr (z, q)) = inr (zero_product k (f h) z, rest q)
+    by rest (inr (z, q)) = inr (zero_out k (f h) z, rest q)
 
 pub up_factor : (hs : List Field) (k : ℤ) (f : Field → ℤ) → pos 0 <ℤ k → IsUp hs (λ h. k *ℤ f h) → IsUp hs f
 up_factor [] k f l p = p
@@ -119,7 +117,7 @@ not_down_times (h ∷ hs) k f l p = by (not_down_times hs k f l) p
     by : (IsNotDown hs f → IsNotDown hs (λ g. k *ℤ f g)) → (pos 0 <ℤ f h) ⊎ ((f h ≡ pos 0) × IsNotDown hs f)
         → (pos 0 <ℤ (k *ℤ f h)) ⊎ ((k *ℤ f h ≡ pos 0) × IsNotDown hs (λ g. k *ℤ f g))
     by rest (inl m) = inl (positive_product k (f h) l m)
-    by rest (inr (z, q)) = inr (zero_product k (f h) z, rest q)
+    by rest (inr (z, q)) = inr (zero_out k (f h) z, rest q)
 
 pub not_down_factor : (hs : List Field) (k : ℤ) (f : Field → ℤ) → pos 0 <ℤ k → IsNotDown hs (λ h. k *ℤ f h) → IsNotDown hs f
 not_down_factor [] k f l p = p

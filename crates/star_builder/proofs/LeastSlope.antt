@@ -11,6 +11,8 @@ use Rattle.ntfe_nums.proofs.Ring.{ring}
 use Rattle.ntfe_nums.proofs.Ring.Expression.{var, plus, minus, times}
 use Rattle.ntfe_nums.proofs.DetLemmas.{det4-cofactors}
 use Rattle.ntfe_nums.specs.Vectors.{cofactors}
+use Rattle.ntfe_nums.proofs.Signs.{positive_product}
+use Rattle.ntfe_model.proofs.Lists.{Contains-map}
 use Rattle.ntfe_model.specs.Lists.{IsNumberOf}
 use Rattle.ntfe_model.specs.Pairs.{entry}
 use Rattle.ntfe_model.specs.Reflexive.{IsTight, IsTightOnFour, at}
@@ -20,9 +22,9 @@ use Rattle.ntfe_model.specs.Charts.{patch_at, axes, place, IsOf, IsUnit}
 use Rattle.ntfe_model.specs.Choices.{height, IsAbove}
 use Rattle.ntfe_model.specs.Stars.{IsOrder}
 use Rattle.ntfe_model.specs.declared.triangle.Triangle.{Triangle}
-use Rattle.ntfe_model.proofs.Listings.{Contains-here, Contains-there, Contains-cases, Contains-none, Contains-filter, listing_range}
+use Rattle.ntfe_model.proofs.Listings.{Contains-there, Contains-filter, listing_range}
 use Rattle.ntfe_model.proofs.GeometryPoints.{numbers_of, point_within, point_place}
-use Rattle.ntfe_model.proofs.PlaneNumbers.{positive_product, positive_factor, zero_factor}
+use Rattle.ntfe_model.proofs.PlaneNumbers.{positive_factor, zero_factor}
 use Rattle.ntfe_model.proofs.Triples.{Decided}
 use Rattle.ntfe_model.proofs.UnitTriples.{area_of, unit_area}
 use Rattle.star_builder.proofs.Leading.{Field, IsNotDown, not_down_same, not_down_sum, not_down_times, not_down_factor, either_way, not_down_up}
@@ -37,11 +39,6 @@ use Rattle.star_builder.proofs.Least.{least_with}
 
 pub from_filter : {X : Type 0} (test : X → Bool) (xs : List X) (x : X) → Contains (filter test xs) x → test x ≡ true
 from_filter test xs x c = All-contains (λ y. test y ≡ true) (filter test xs) x (filter_passes test xs) c
-
-pub Contains-map : {X Y : Type 0} (f : X → Y) (xs : List X) (x : X) → Contains xs x → Contains (map f xs) (f x)
-Contains-map f [] x c = Contains-none x c
-Contains-map f (y ∷ ys) x c =
-    ⊎_elim (λ e. Contains-here (f x) (f y) (map f ys) (ap f e)) (λ d. Contains-there (f x) (f y) (map f ys) (Contains-map f ys x d)) (Contains-cases x y ys c)
 
 both_true : (a b : Bool) → a && b ≡ true → (a ≡ true) × (b ≡ true)
 both_true true true e = (refl, refl)

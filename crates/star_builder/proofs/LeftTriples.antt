@@ -4,6 +4,7 @@
 use Rattle.std.proofs.Common.{◌≡◌, ◌≢◌, ℕ, zero, suc, ◌<◌, ◌⊎◌, inl, inr, ⊎_elim, refl, sym, ap, ◌∙◌, subst, arith, ℤ, pos, negsuc, ◌<ℤ◌, neg_ℤ, List, [], ◌∷◌, map, length}
 use Rattle.std.specs.Prelude.{Contains, flat_map, ◌↔◌}
 use Rattle.std.proofs.lemmas.Int.{ints}
+use Rattle.ntfe_model.proofs.Lists.{Contains-map}
 use Rattle.ntfe_model.specs.Pairs.{entry}
 use Rattle.ntfe_model.specs.Points.{place_of_point}
 use Rattle.ntfe_model.specs.Shapes.{Shape, IsShape}
@@ -23,7 +24,6 @@ use Rattle.star_builder.proofs.FacetPoints.{decide_equal}
 use Rattle.star_builder.proofs.FaceSteps.{decide_listed}
 use Rattle.star_builder.proofs.FineRestrictions.{restriction_fine}
 use Rattle.star_builder.proofs.Inducing.{some_triple}
-use Rattle.star_builder.proofs.LeastSlope.{Contains-map}
 use Rattle.star_builder.proofs.LowSimplices.{IsLow, member_low}
 use Rattle.star_builder.proofs.Ridges.{shares_ridge}
 use Rattle.star_builder.proofs.Searches.{some_or_all}

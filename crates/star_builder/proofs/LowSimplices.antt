@@ -16,7 +16,7 @@ use Rattle.ntfe_model.specs.Points.{place_of_point}
 use Rattle.ntfe_model.specs.Stars.{IsOrder, IsMember, IsLexAbove}
 use Rattle.ntfe_model.specs.declared.point.Point.{Point}
 use Rattle.ntfe_model.proofs.Listings.{Contains-here, Contains-there, listing_range}
-use Rattle.star_builder.proofs.Exchanges.{swap_first, swap_middle, swap_last, same_front, same_inner, same_third}
+use Rattle.ntfe_nums.proofs.Exchanges.{swap_first, swap_middle, swap_last, same_front, same_inner, same_third}
 use Rattle.star_builder.proofs.FourPoints.{in_four}
 use Rattle.star_builder.proofs.Rises.{rise, volume, rise_swap_first, rise_swap_middle, rise_swap_last}
 use Rattle.star_builder.proofs.WholeHeights.{AreFive, whole, lex_rises, rises_lex, never_level}

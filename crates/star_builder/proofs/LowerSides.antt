@@ -1,23 +1,20 @@
 -- The sides of triples that lie below all other points of a plane meet in ends alone.
 --     meet_heights      two segments that meet, and the heights at the meeting point
 --     lower_sides_meet      where sides of two lower triples meet, the point is an end of both, or they have the same two ends
-use Rattle.std.proofs.Common.{◌≡◌, ◌≢◌, ℕ, zero, suc, ◌⊎◌, inl, inr, ⊎_elim, refl, sym, ap, ◌∙◌, subst, arith, ℤ, pos, ◌+ℤ◌, ◌-ℤ◌, ◌*ℤ◌, ◌≤ℤ◌, [], ◌∷◌}
+use Rattle.std.proofs.Common.{◌≡◌, ◌≢◌, ℕ, suc, ◌⊎◌, inl, inr, ⊎_elim, refl, sym, ap, ◌∙◌, subst, arith, ℤ, pos, ◌+ℤ◌, ◌-ℤ◌, ◌*ℤ◌, ◌≤ℤ◌, [], ◌∷◌}
 use Rattle.std.proofs.lemmas.Int.{ints}
 use Rattle.ntfe_nums.proofs.Ring.{Expression, ring}
 use Rattle.ntfe_nums.proofs.Ring.Expression.{var, num, plus, minus, times}
 use Rattle.ntfe_model.specs.Triangulations.{HaveSameEnds}
 use Rattle.ntfe_model.proofs.PlaneNumbers.{zero_factor}
 use Rattle.star_builder.proofs.Planar.{wedge, lift, IsLower, lower_over, not_both, wedgeE, liftE, wedge_outer, wedge_last}
-use Rattle.star_builder.proofs.Signs.{product_not_negative, factor_not_negative, same_or}
+use Rattle.ntfe_nums.proofs.Signs.{product_not_negative, factor_not_negative, same_or, sum_not_negative}
 
 -- ---- numbers
 
 -- two numbers that are not negative, with the sum 0
 both_none : (y z : ℤ) → pos 0 ≤ℤ y → pos 0 ≤ℤ z → y +ℤ z ≡ pos 0 → (y ≡ pos 0) × (z ≡ pos 0)
 both_none y z k l e = (omega (arith, ints, k, l, e), omega (arith, ints, k, l, e))
-
-sum_not_negative : (y z : ℤ) → pos 0 ≤ℤ y → pos 0 ≤ℤ z → pos 0 ≤ℤ (y +ℤ z)
-sum_not_negative y z k l = omega (arith, ints, k, l)
 
 module _ (X Y v : ℕ → ℤ) where
   -- s1 a + s2 b and t1 c + t2 d are the same point, s1 + s2 = t1 + t2 times taken

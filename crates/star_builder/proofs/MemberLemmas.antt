@@ -11,7 +11,7 @@ use Rattle.ntfe_model.specs.Stars.{IsMember, IsLexAbove}
 use Rattle.ntfe_model.specs.declared.point.Point.{Point}
 use Rattle.ntfe_model.proofs.Listings.{Contains-here, Contains-there, Contains-cases, Contains-none}
 use Rattle.star_builder.specs.declared.four.Four.{Four}
-use Rattle.star_builder.specs.Facets.{IsFacetOf}
+use Rattle.ntfe_model.specs.TightBits.{IsFacetOf}
 use Rattle.star_builder.specs.Fours.{AreRising, AreIndependent, members_of}
 use Rattle.star_builder.specs.Others.{IsOther, AreOthersAbove}
 use Rattle.star_builder.proofs.DualLemmas.{dual_unique}

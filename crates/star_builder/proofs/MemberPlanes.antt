@@ -1,13 +1,13 @@
 -- A member of a star, three of its points i, j and k, and another point p of their plane: p = x i + y j + z k.
 --     outside_member      p is no point of the member
 --     form_leads      if p is lexicographically above the member, then it is above i, j and k: the first number of the plane's form that is not 0 is positive
-use Rattle.std.proofs.Common.{◌≡◌, ◌≢◌, ℕ, zero, suc, ◌+◌, ◌<◌, ◌==◌, ◌⊎◌, inl, inr, ⊎_elim, Bool, true, false, cond, refl, sym, ap, ◌∙◌, arith, ℤ, pos, negsuc, ◌+ℤ◌, ◌-ℤ◌, ◌*ℤ◌, ◌<ℤ◌, neg_ℤ, List, [], ◌∷◌, map, unsigned_abs}
+use Rattle.std.proofs.Common.{◌≡◌, ◌≢◌, ℕ, zero, suc, ◌+◌, ◌<◌, ◌==◌, ◌⊎◌, inl, inr, ⊎_elim, false, refl, sym, ap, ◌∙◌, arith, ℤ, pos, negsuc, ◌+ℤ◌, ◌-ℤ◌, ◌*ℤ◌, ◌<ℤ◌, neg_ℤ, List, [], ◌∷◌, map, unsigned_abs}
 use Rattle.std.specs.Prelude.{Contains}
 use Rattle.std.proofs.lemmas.Int.{ints}
-use Rattle.std.proofs.lemmas.Bool.Decides.{nat_tests}
 use Rattle.ntfe_nums.specs.Vectors.{Vector, vector_sum, multiple, det4, AreLinearlyIndependent}
 use Rattle.ntfe_nums.proofs.Ring.{ring}
 use Rattle.ntfe_nums.proofs.Ring.Expression.{var, num, minus, plus, times, neg}
+use Rattle.ntfe_nums.proofs.Tests.{same_from_test, other_from_test, cond_is}
 use Rattle.ntfe_model.specs.Points.{place_of_point}
 use Rattle.ntfe_model.specs.Choices.{height}
 use Rattle.ntfe_model.specs.Stars.{IsFirstPositive, IsLexAbove, push_coefficient}
@@ -36,16 +36,6 @@ pub size_positive : (d size : ℤ) → d ≢ pos 0 → size ≡ pos (unsigned_ab
 size_positive (pos zero) size n e = absurd (n refl)
 size_positive (pos (suc m)) size n e = omega (arith, ints, e)
 size_positive (negsuc m) size n e = omega (arith, ints, e)
-
-cond_is : (t : Bool) (x y z : ℤ) → (t ≡ true → x ≡ z) → (t ≡ false → y ≡ z) → cond t x y ≡ z
-cond_is true x y z f g = f refl
-cond_is false x y z f g = g refl
-
-test_true : (m n : ℕ) → (m == n) ≡ true → m ≡ n
-test_true m n e = grind (arith, nat_tests)
-
-test_false : (m n : ℕ) → (m == n) ≡ false → m ≢ n
-test_false m n e q = absurd (grind (arith, nat_tests))
 
 -- the factor of the height of m in w(p) - x w(i) - y w(j) - z w(k)
 abbrev pub form : ℕ → ℕ → ℕ → ℕ → ℤ → ℤ → ℤ → ℕ → ℤ
@@ -144,12 +134,12 @@ module _ (xs : List Point) (a b c d i j k p : ℕ) (x y z : ℤ) (ab : a < b) (b
   divided_coefficient : (size : ℤ) (m : ℕ)
       → push_coefficient size (a, share a *ℤ size) (b, share b *ℤ size) (c, share c *ℤ size) (d, share d *ℤ size) p m ≡ form p i j k x y z m *ℤ size
   divided_coefficient size m =
-      cond_is (m == p) _ _ _ (λ e. at_p (test_true m p e))
-      (λ n. cond_is (m == a) _ _ _ (λ e. at_member n a (test_true m a e))
-      (λ na. cond_is (m == b) _ _ _ (λ e. at_member n b (test_true m b e))
-      (λ nb. cond_is (m == c) _ _ _ (λ e. at_member n c (test_true m c e))
-      (λ nc. cond_is (m == d) _ _ _ (λ e. at_member n d (test_true m d e))
-      (λ nd. elsewhere n (other_share m (test_false m a na) (test_false m b nb) (test_false m c nc) (test_false m d nd)))))))
+      cond_is (m == p) _ _ _ (λ e. at_p (same_from_test m p e))
+      (λ n. cond_is (m == a) _ _ _ (λ e. at_member n a (same_from_test m a e))
+      (λ na. cond_is (m == b) _ _ _ (λ e. at_member n b (same_from_test m b e))
+      (λ nb. cond_is (m == c) _ _ _ (λ e. at_member n c (same_from_test m c e))
+      (λ nc. cond_is (m == d) _ _ _ (λ e. at_member n d (same_from_test m d e))
+      (λ nd. elsewhere n (other_share m (other_from_test m a na) (other_from_test m b nb) (other_from_test m c nc) (other_from_test m d nd)))))))
     where
       value_at : (o s o' s' : ℤ) → o ≡ o' → s ≡ s' → (o' -ℤ s') *ℤ size ≡ (o -ℤ s) *ℤ size
       value_at o s o' s' e f = λ t. (sym e t -ℤ sym f t) *ℤ size
@@ -161,13 +151,13 @@ module _ (xs : List Point) (a b c d i j k p : ℕ) (x y z : ℤ) (ab : a < b) (b
           by u = ring (u ∷ []) (var 0) (times (minus (num (pos 1)) (num (pos 0))) (var 0)) refl
 
       at_member : (m == p) ≡ false → (n : ℕ) → m ≡ n → neg_ℤ (share n *ℤ size) ≡ form p i j k x y z m *ℤ size
-      at_member off n e = by (share n) size ∙ value_at (one_at p m) (share m) (pos 0) (share n) (one_elsewhere p m (test_false m p off)) (ap share e)
+      at_member off n e = by (share n) size ∙ value_at (one_at p m) (share m) (pos 0) (share n) (one_elsewhere p m (other_from_test m p off)) (ap share e)
         where
           by : (u v : ℤ) → neg_ℤ (u *ℤ v) ≡ (pos 0 -ℤ u) *ℤ v
           by u v = ring (u ∷ v ∷ []) (neg (times (var 0) (var 1))) (times (minus (num (pos 0)) (var 0)) (var 1)) refl
 
       elsewhere : (m == p) ≡ false → share m ≡ pos 0 → pos 0 ≡ form p i j k x y z m *ℤ size
-      elsewhere off e = by size ∙ value_at (one_at p m) (share m) (pos 0) (pos 0) (one_elsewhere p m (test_false m p off)) e
+      elsewhere off e = by size ∙ value_at (one_at p m) (share m) (pos 0) (pos 0) (one_elsewhere p m (other_from_test m p off)) e
         where
           by : (u : ℤ) → pos 0 ≡ (pos 0 -ℤ pos 0) *ℤ u
           by u = ring (u ∷ []) (num (pos 0)) (times (minus (num (pos 0)) (num (pos 0))) (var 0)) refl

@@ -8,7 +8,7 @@ use Rattle.ntfe_model.specs.Stars.{IsMixture, IsLexAbove, IsFirstPositive, push_
 use Rattle.ntfe_model.specs.declared.point.Point.{Point}
 use Rattle.ntfe_nums.proofs.Ring.{Expression, ring}
 use Rattle.ntfe_nums.proofs.Ring.Expression.{var, plus, minus, times, neg}
-use Rattle.ntfe_nums.proofs.DetLemmas.{Row, row, det4E}
+use Rattle.ntfe_nums.proofs.DetLemmas.{Row, row, det4E, of5}
 use Rattle.ntfe_model.proofs.PlaneNumbers.{zero_factor}
 
 -- z, turned over where the determinant is negative
@@ -17,9 +17,6 @@ turned (pos n) z = z
 turned (negsuc n) z = neg_ℤ z
 
 -- ---- Cramer's rule
-
-abbrev pub of5 : Vector → Vector → Vector → Vector → Vector → List ℤ
-of5 a b c d p = a.x1 ∷ a.x2 ∷ a.x3 ∷ a.x4 ∷ b.x1 ∷ b.x2 ∷ b.x3 ∷ b.x4 ∷ c.x1 ∷ c.x2 ∷ c.x3 ∷ c.x4 ∷ d.x1 ∷ d.x2 ∷ d.x3 ∷ d.x4 ∷ p.x1 ∷ p.x2 ∷ p.x3 ∷ p.x4 ∷ []
 
 -- the sum of four determinants, each times one of the four numbers
 abbrev cramer_sum : Expression → Expression → Expression → Expression → Expression

@@ -7,7 +7,7 @@ use Rattle.ntfe_nums.specs.Vectors.{Vector, dot, det4}
 use Rattle.ntfe_nums.proofs.Ring.{ring}
 use Rattle.ntfe_nums.proofs.Ring.Expression.{var, minus, times}
 use Rattle.ntfe_model.proofs.PlaneNumbers.{zero_factor}
-use Rattle.star_builder.proofs.Exchanges.{cramer_form}
+use Rattle.ntfe_nums.proofs.Exchanges.{cramer_form}
 
 pub cancel_factor : (k x y : ℤ) → k ≢ pos 0 → k *ℤ x ≡ k *ℤ y → x ≡ y
 cancel_factor k x y n e =

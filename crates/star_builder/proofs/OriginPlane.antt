@@ -20,7 +20,7 @@ use Rattle.star_builder.proofs.FourWeights.{Weights, dot_mix}
 use Rattle.star_builder.proofs.MemberLemmas.{has_first, has_second, has_third, has_fourth, same_first, same_second, same_third, same_fourth, member_independent}
 use Rattle.star_builder.proofs.MemberPlanes.{size_positive}
 use Rattle.star_builder.proofs.Mixtures.{turned, mixture_exists}
-use Rattle.star_builder.proofs.Signs.{product_not_negative, product_not_positive}
+use Rattle.ntfe_nums.proofs.Signs.{product_not_negative, product_not_positive}
 use Rattle.star_builder.proofs.VertexPoints.{number_point, point_small}
 use Rattle.star_builder.proofs.WholeHeights.{volume_bound, volume_small}
 

@@ -5,10 +5,11 @@ use Rattle.ntfe_nums.specs.Vectors.{Vector, origin, dot, det3, det4, cofactors}
 use Rattle.ntfe_nums.proofs.Ring.{ring}
 use Rattle.ntfe_nums.proofs.Ring.Expression.{var, num, neg}
 use Rattle.ntfe_nums.proofs.DetLemmas.{det3E, det4-cofactors}
+use Rattle.ntfe_nums.proofs.Exchanges.{swap_last, second_last, first_last}
 use Rattle.ntfe_model.proofs.Triples.{Decided, decide_both}
 use Rattle.star_builder.proofs.Decisions.{decide_some_below, decide_not, decide_both4}
 use Rattle.star_builder.proofs.FacetPoints.{decide_equal}
-use Rattle.star_builder.proofs.FourWeights.{det4-swap34, det4-second_last, det4-first_last, orthogonal_first, orthogonal_second, orthogonal_third}
+use Rattle.star_builder.proofs.FourWeights.{orthogonal_first, orthogonal_second, orthogonal_third}
 
 -- ---- vectors
 
@@ -122,7 +123,7 @@ module _ (at : ℕ → Vector) (n : ℕ) (Z : ℕ → Type 0) (decide : (i : ℕ
       orthogonal_third (at i) (at j) v,
       (λ k lk zk.
           sym (det4-cofactors (at i) (at j) v (at k))
-          ∙ no_sign (det4 (at i) (at j) v (at k)) (det4 (at i) (at j) (at k) v) (det4-swap34 (at i) (at j) (at k) v)
+          ∙ no_sign (det4 (at i) (at j) v (at k)) (det4 (at i) (at j) (at k) v) (swap_last (at i) (at j) (at k) v)
           (zero_number (det4 (at i) (at j) (at k) v) (λ d. none (i, li, (j, lj, (k, lk, (zi, zj, zk, d))))))),
     ),
   )
@@ -134,7 +135,7 @@ module _ (at : ℕ → Vector) (n : ℕ) (Z : ℕ → Type 0) (decide : (i : ℕ
       m,
       orthogonal_second (at i) v (axis j),
       (λ k lk zk.
-          sym (det4-cofactors (at i) v (axis j) (at k)) ∙ det4-second_last (at i) (at k) v (axis j) ∙ det4-cofactors (at i) (at k) v (axis j)
+          sym (det4-cofactors (at i) v (axis j) (at k)) ∙ second_last (at i) (at k) v (axis j) ∙ det4-cofactors (at i) (at k) v (axis j)
           ∙ ap (λ u. dot u (axis j)) (zero_vector (cofactors (at i) (at k) v) (λ d. none (i, li, (k, lk, (zi, zk, d))))) ∙ no_product (axis j)),
     ),
   )
@@ -147,7 +148,7 @@ module _ (at : ℕ → Vector) (n : ℕ) (Z : ℕ → Type 0) (decide : (i : ℕ
       orthogonal_first v (axis i) (axis j),
       (λ k lk zk.
           sym (det4-cofactors v (axis i) (axis j) (at k))
-          ∙ no_sign (det4 v (axis i) (axis j) (at k)) (det4 (at k) v (axis i) (axis j)) (det4-first_last (at k) v (axis i) (axis j))
+          ∙ no_sign (det4 v (axis i) (axis j) (at k)) (det4 (at k) v (axis i) (axis j)) (first_last (at k) v (axis i) (axis j))
           (det4-cofactors (at k) v (axis i) (axis j) ∙ ap (λ u. dot u (axis j)) (zero_vector (cofactors (at k) v (axis i)) (λ d. none (k, lk, (i, li, (zk, d))))) ∙ no_product (axis j))),
     ),
   )

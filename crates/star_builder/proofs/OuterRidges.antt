@@ -16,7 +16,7 @@ use Rattle.ntfe_model.specs.Reflexive.{IsTight, at}
 use Rattle.ntfe_model.specs.Points.{place_of_point}
 use Rattle.ntfe_model.specs.Shapes.{Shape, IsShape}
 use Rattle.ntfe_model.proofs.Listings.{listing_range}
-use Rattle.star_builder.proofs.Exchanges.{same_first, same_second, same_third}
+use Rattle.ntfe_nums.proofs.Exchanges.{same_first, same_second, same_third}
 use Rattle.star_builder.proofs.FacetMembers.{lifted_over}
 use Rattle.star_builder.proofs.Flanks.{numbers_of, number_within}
 use Rattle.star_builder.proofs.Hulls.{hull_over}
@@ -25,7 +25,7 @@ use Rattle.star_builder.proofs.Spanning.{spot, weight_of}
 use Rattle.star_builder.proofs.Supports.{tight_points, in_tight}
 use Rattle.star_builder.proofs.VertexPoints.{vertex_number, number_point, place_number}
 use Rattle.star_builder.proofs.Searches.{some_or_all}
-use Rattle.star_builder.proofs.Signs.{above_zero, product_not_negative, same_or, square_positive, zero_or, zero_out}
+use Rattle.ntfe_nums.proofs.Signs.{above_zero, product_not_negative, same_or, square_positive, zero_or, zero_out}
 
 -- ---- a vector beyond a ridge
 

@@ -1,11 +1,11 @@
 -- The points of a two-face, found by their numbers.
-use Rattle.std.proofs.Common.{◌≡◌, ℕ, ◌<◌, ◌⊎◌, inl, inr, refl, ap, List, [], ◌∷◌, length, get_or, true, false, subst, sym, ◌∙◌, arith}
-use Rattle.std.specs.Prelude.{Any, Contains}
+use Rattle.std.proofs.Common.{◌≡◌, ℕ, ◌⊎◌, inl, inr, refl, ap, List, [], ◌∷◌, true, false, subst, sym, ◌∙◌, arith}
+use Rattle.std.specs.Prelude.{Contains}
 use lib.Dec.{eqb}
 use Rattle.std.specs.List.{list_any}
 use Rattle.std.proofs.lemmas.Bool.Decides.{nat_tests}
 use Rattle.std.proofs.lemmas.List.Folds.{Any-from_list_any, list_any_at}
-use Rattle.std.proofs.lemmas.List.Elements.{Contains-get_or, All-contains}
+use Rattle.std.proofs.lemmas.List.Elements.{All-contains}
 use Rattle.ntfe_model.specs.Points.{place_of_point}
 use Rattle.ntfe_model.specs.Charts.{Spot, IsOf, place}
 use Rattle.ntfe_model.specs.Lists.{IsNumberOf}
@@ -13,9 +13,6 @@ use Rattle.ntfe_model.proofs.GeometryPoints.{numbers_of, place_of_number}
 use Rattle.ntfe_model.specs.declared.point.Point.{Point}
 use Rattle.ntfe_model.proofs.Listings.{Contains-cases, Contains-none, Contains-here, Contains-there}
 use Rattle.star_builder.specs.Outlines.{patch, AreKnown}
-
-pub any_here : (P : ℕ → Type 0) (ks : List ℕ) (i : ℕ) → i < length ks → P (get_or ks i 0) → Any P ks
-any_here P ks i l p = let c = Contains-get_or ks i 0 l in (c.0, get_or ks i 0, c.1, c.2, p)
 
 -- each point of the patch stands in it with its place
 pub spot_in : (xs : List Point) (ks : List ℕ) (a : ℕ) → Contains ks a → Contains (patch ks xs) (record { number = a; place = place_of_point xs a })

@@ -1,37 +1,21 @@
 -- Forms that are 0 on three independent vectors, hyperplanes through four points, and a vector that is orthogonal to dependent ones.
-use Rattle.std.proofs.Common.{◌≡◌, ◌≢◌, ℕ, zero, suc, ◌+◌, ◌⊎◌, inl, inr, ⊎_elim, refl, sym, ap, ◌∙◌, subst, arith, ℤ, pos, negsuc, ◌+ℤ◌, ◌-ℤ◌, ◌*ℤ◌, ◌<ℤ◌, ◌≤ℤ◌, neg_ℤ, [], ◌∷◌}
+use Rattle.std.proofs.Common.{◌≡◌, ◌≢◌, ℕ, ◌+◌, ◌⊎◌, inl, inr, ⊎_elim, refl, sym, ap, ◌∙◌, subst, arith, ℤ, pos, negsuc, ◌+ℤ◌, ◌-ℤ◌, ◌*ℤ◌, ◌<ℤ◌, ◌≤ℤ◌, neg_ℤ, [], ◌∷◌}
 use Rattle.std.proofs.lemmas.Int.{ints}
 use Rattle.ntfe_nums.specs.Vectors.{Vector, origin, dot, difference, area, det4, cofactors, normal, side_of, AreAffinelyIndependent}
 use Rattle.ntfe_nums.proofs.Ring.{Expression, ring}
 use Rattle.ntfe_nums.proofs.Ring.Expression.{var, plus, minus, times, neg}
 use Rattle.ntfe_nums.proofs.DetLemmas.{Row, row, dotE, det4E, of4, det4-cofactors, side-normal}
+use Rattle.ntfe_nums.proofs.Signs.{zero_out, positive_product, product_exchanged, square_not_negative}
+use Rattle.ntfe_nums.proofs.Exchanges.{swap_first, swap_middle}
 use Rattle.ntfe_model.specs.Reflexive.{IsTight}
 use Rattle.ntfe_model.specs.Points.{SpanPlane}
-use Rattle.ntfe_model.proofs.PlaneNumbers.{positive_product, zero_factor}
+use Rattle.ntfe_model.proofs.PlaneNumbers.{zero_factor}
 use Rattle.ntfe_model.proofs.Triples.{Decided}
 use Rattle.star_builder.proofs.Leading.{three_signs}
-use Rattle.star_builder.proofs.FourWeights.{dot_mix, cramer, cramer_weights, cancel_other, det4-swap12, det4-swap23}
+use Rattle.star_builder.proofs.FourWeights.{dot_mix, cramer, cramer_weights, cancel_other}
 use Rattle.star_builder.proofs.FacetPoints.{decide_equal, same_form}
 
 -- ---- products
-
-order : (y z : ℤ) → y *ℤ z ≡ z *ℤ y
-order y z = omega (arith, ints)
-
-none_times : (k z : ℤ) → z ≡ pos 0 → k *ℤ z ≡ pos 0
-none_times k z e = ap (λ x. k *ℤ x) e ∙ omega (arith, ints)
-
-pub square_size : (z : ℤ) → pos 0 ≤ℤ (z *ℤ z)
-square_size (pos zero) = omega (arith, ints)
-square_size (pos (suc n)) = weaker (positive_product (pos (suc n)) (pos (suc n)) (omega (arith, ints)) (omega (arith, ints)))
-  where
-    weaker : pos 0 <ℤ (pos (suc n) *ℤ pos (suc n)) → pos 0 ≤ℤ (pos (suc n) *ℤ pos (suc n))
-    weaker l = omega (arith, ints, l)
-square_size (negsuc n) = weaker (negsuc n *ℤ negsuc n) (neg_ℤ (negsuc n) *ℤ neg_ℤ (negsuc n)) (positive_product (neg_ℤ (negsuc n)) (neg_ℤ (negsuc n)) (omega (arith, ints)) (omega (arith, ints)))
-    (ring (negsuc n ∷ []) (times (neg (var 0)) (neg (var 0))) (times (var 0) (var 0)) refl)
-  where
-    weaker : (x y : ℤ) → pos 0 <ℤ y → y ≡ x → pos 0 ≤ℤ x
-    weaker x y l e = omega (arith, ints, l, e)
 
 -- ---- forms that are 0 on three independent vectors are proportional
 
@@ -124,11 +108,11 @@ affine_swap12 a b c d n e = n (sides_dependent a b c d (λ x. zero_negated _ _ (
 
 pub affine_swap23 : (a b c d : Vector) → AreAffinelyIndependent a b c d → AreAffinelyIndependent a c b d
 affine_swap23 a b c d n e =
-    n (sides_dependent a b c d (λ x. zero_negated _ _ (det4-swap12 (difference b a) (difference c a) (difference d a) (difference x a)) (dependent_sides a c b d e x)))
+    n (sides_dependent a b c d (λ x. zero_negated _ _ (swap_first (difference b a) (difference c a) (difference d a) (difference x a)) (dependent_sides a c b d e x)))
 
 pub affine_swap34 : (a b c d : Vector) → AreAffinelyIndependent a b c d → AreAffinelyIndependent a b d c
 affine_swap34 a b c d n e =
-    n (sides_dependent a b c d (λ x. zero_negated _ _ (det4-swap23 (difference b a) (difference c a) (difference d a) (difference x a)) (dependent_sides a b d c e x)))
+    n (sides_dependent a b c d (λ x. zero_negated _ _ (swap_middle (difference b a) (difference c a) (difference d a) (difference x a)) (dependent_sides a b d c e x)))
 
 -- three independent points of a facet, and a point outside
 det4-differences : (a b c p : Vector) → det4 (difference b a) (difference c a) a p ≡ det4 a b c p
@@ -161,7 +145,7 @@ affine_outside m a b c p w ta tb tc n out e =
 
     last : (k s l1 y1 l2 y2 t l4 y4 : ℤ) → k ≡ pos 0 → y1 ≡ pos 0 → y2 ≡ pos 0 → l4 ≡ pos 0 → k *ℤ s ≡ l1 *ℤ y1 +ℤ (l2 *ℤ y2 +ℤ (t +ℤ l4 *ℤ y4)) → t ≡ pos 0
     last k s l1 y1 l2 y2 t l4 y4 ek e1 e2 e4 f =
-        by (k *ℤ s) (l1 *ℤ y1) (l2 *ℤ y2) (l4 *ℤ y4) (order k s ∙ none_times s k ek) (none_times l1 y1 e1) (none_times l2 y2 e2) (order l4 y4 ∙ none_times y4 l4 e4) f
+        by (k *ℤ s) (l1 *ℤ y1) (l2 *ℤ y2) (l4 *ℤ y4) (product_exchanged k s ∙ zero_out s k ek) (zero_out l1 y1 e1) (zero_out l2 y2 e2) (product_exchanged l4 y4 ∙ zero_out y4 l4 e4) f
       where
         by : (u v w q : ℤ) → u ≡ pos 0 → v ≡ pos 0 → w ≡ pos 0 → q ≡ pos 0 → u ≡ v +ℤ (w +ℤ (t +ℤ q)) → t ≡ pos 0
         by u v w q f1 f2 f3 f4 f5 = omega (arith, ints, f1, f2, f3, f4, f5)
@@ -183,9 +167,9 @@ normal_square n i = by (three_signs (dot n n))
 
     by : (pos 0 <ℤ dot n n) ⊎ ((dot n n ≡ pos 0) ⊎ (pos 0 <ℤ neg_ℤ (dot n n))) → pos 0 <ℤ dot n n
     by (inl l) = l
-    by (inr (inr l)) = absurd (not_below (n.x1 *ℤ n.x1) (n.x2 *ℤ n.x2) (n.x3 *ℤ n.x3) (n.x4 *ℤ n.x4) (square_size n.x1) (square_size n.x2) (square_size n.x3) (square_size n.x4) l)
+    by (inr (inr l)) = absurd (not_below (n.x1 *ℤ n.x1) (n.x2 *ℤ n.x2) (n.x3 *ℤ n.x3) (n.x4 *ℤ n.x4) (square_not_negative n.x1) (square_not_negative n.x2) (square_not_negative n.x3) (square_not_negative n.x4) l)
     by (inr (inl e)) =
-        let r = sizes (n.x1 *ℤ n.x1) (n.x2 *ℤ n.x2) (n.x3 *ℤ n.x3) (n.x4 *ℤ n.x4) (square_size n.x1) (square_size n.x2) (square_size n.x3) (square_size n.x4) e in
+        let r = sizes (n.x1 *ℤ n.x1) (n.x2 *ℤ n.x2) (n.x3 *ℤ n.x3) (n.x4 *ℤ n.x4) (square_not_negative n.x1) (square_not_negative n.x2) (square_not_negative n.x3) (square_not_negative n.x4) e in
         absurd (i (λ j. record { x1 = root n.x1 r.0 j; x2 = root n.x2 r.1 j; x3 = root n.x3 r.2 j; x4 = root n.x4 r.3 j }))
 
 -- the side of the hyperplane and the form's excess over its level are proportional
@@ -220,7 +204,7 @@ one_side u a b c d o n i ea eb ec ed over = by (three_signs (dot u (normal a b c
     gap y l = omega (arith, ints, l)
 
     not_level : (y z k : ℤ) → pos 0 <ℤ y → y ≡ z *ℤ k → k ≡ pos 0 → ⊥
-    not_level y z k l e f = apart y (z *ℤ k) l e (none_times z k f)
+    not_level y z k l e f = apart y (z *ℤ k) l e (zero_out z k f)
       where
         apart : (u v : ℤ) → pos 0 <ℤ u → u ≡ v → v ≡ pos 0 → ⊥
         apart u v p q r = absurd (omega (arith, ints, p, q, r))
@@ -233,7 +217,7 @@ one_side u a b c d o n i ea eb ec ed over = by (three_signs (dot u (normal a b c
           where
             weaker : (v : ℤ) → pos 0 <ℤ v → pos 0 ≤ℤ v
             weaker v p = omega (arith, ints, p)
-        at_least y (inr (inl z')) m f = equal (k *ℤ y) (none_times k y z')
+        at_least y (inr (inl z')) m f = equal (k *ℤ y) (zero_out k y z')
           where
             equal : (v : ℤ) → v ≡ pos 0 → pos 0 ≤ℤ v
             equal v p = omega (arith, ints, p)

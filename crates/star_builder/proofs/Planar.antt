@@ -4,19 +4,16 @@
 --     IsLower      the triples that lie below all other points
 --     lower_once      a side has at most one such triple on its left
 --     step_lower, reverse_lower      where a side has one
-use Rattle.std.proofs.Common.{◌≡◌, ◌≢◌, ℕ, zero, suc, ◌<◌, ◌⊎◌, inl, inr, ⊎_elim, refl, sym, ap, ◌∙◌, subst, arith, ℤ, pos, negsuc, ◌+ℤ◌, ◌-ℤ◌, ◌*ℤ◌, ◌<ℤ◌, ◌≤ℤ◌, neg_ℤ, List, [], ◌∷◌}
+use Rattle.std.proofs.Common.{◌≡◌, ◌≢◌, ℕ, suc, ◌<◌, ◌⊎◌, inl, inr, ⊎_elim, refl, sym, ap, ◌∙◌, subst, arith, ℤ, pos, negsuc, ◌+ℤ◌, ◌-ℤ◌, ◌*ℤ◌, ◌<ℤ◌, ◌≤ℤ◌, neg_ℤ, List, [], ◌∷◌}
 use Rattle.std.proofs.lemmas.Int.{ints}
 use Rattle.ntfe_nums.proofs.Ring.{Expression, ring}
 use Rattle.ntfe_nums.proofs.Ring.Expression.{var, num, plus, minus, times, neg}
-use Rattle.ntfe_model.proofs.PlaneNumbers.{positive_product, positive_factor}
+use Rattle.ntfe_model.proofs.PlaneNumbers.{positive_factor}
 use Rattle.ntfe_model.proofs.Triples.{Decided, decide_both}
 use Rattle.star_builder.proofs.Least.{least_with}
-use Rattle.star_builder.proofs.Signs.{above_zero, factor_not_negative, product_not_negative, same_or, sign_of}
+use Rattle.ntfe_nums.proofs.Signs.{above_zero, factor_not_negative, product_not_negative, same_or, sign_of, positive_product, not_negative}
 
 -- ---- numbers
-
-pub weaker : (z : ℤ) → pos 0 <ℤ z → pos 0 ≤ℤ z
-weaker z l = omega (arith, ints, l)
 
 pub not_both : (z : ℤ) → pos 0 <ℤ z → z ≡ pos 0 → ⊥
 not_both z l e = absurd (omega (arith, ints, l, e))
@@ -159,7 +156,7 @@ module _ (X Y v : ℕ → ℤ) where
     lower_over a b c l p o =
         ⊎_elim (level a (lift_first a b c)) (λ na.
         ⊎_elim (level b (lift_second a b c)) (λ nb.
-        ⊎_elim (level c (lift_third a b c)) (λ nc. weaker (lift a b c p) (l.above p o na nb nc)) (same_or p c)) (same_or p b)) (same_or p a)
+        ⊎_elim (level c (lift_third a b c)) (λ nc. not_negative (lift a b c p) (l.above p o na nb nc)) (same_or p c)) (same_or p b)) (same_or p a)
       where
         zero : (z : ℤ) → z ≡ pos 0 → pos 0 ≤ℤ z
         zero z e = omega (arith, ints, e)
@@ -206,7 +203,7 @@ module _ (X Y v : ℕ → ℤ) where
         chain c d p kc kd kp u r =
             factor_not_negative (wedge a b d) (lift a b c p) kd.1
             (sum (wedge a b d *ℤ lift a b c p) (wedge a b c *ℤ lift a b d p) (wedge a b p *ℤ lift a b c d) (lift_beside a b c d p)
-            (product_not_negative (wedge a b c) (lift a b d p) (weaker (wedge a b c) kc.1) r) (product_not_negative (wedge a b p) (lift a b c d) (weaker (wedge a b p) kp.1) u))
+            (product_not_negative (wedge a b c) (lift a b d p) (not_negative (wedge a b c) kc.1) r) (product_not_negative (wedge a b p) (lift a b c d) (not_negative (wedge a b p) kp.1) u))
           where
             sum : (x y z : ℤ) → x ≡ y +ℤ z → pos 0 ≤ℤ y → pos 0 ≤ℤ z → pos 0 ≤ℤ x
             sum x y z e k l = omega (arith, ints, e, k, l)
@@ -274,12 +271,12 @@ module _ (X Y v : ℕ → ℤ) where
                   away : p ≢ c → pos 0 <ℤ (lift b a d p *ℤ wedge a b c)
                   away n =
                       sum_first _ (wedge b a d *ℤ lift a b c p) (wedge a b p *ℤ lift a b c d) total_is
-                      (positive_product (wedge b a d) (lift a b c p) r.left (l.above p o pa pb n)) (product_not_negative (wedge a b p) (lift a b c d) k (weaker (lift a b c d) d_above))
+                      (positive_product (wedge b a d) (lift a b c p) r.left (l.above p o pa pb n)) (product_not_negative (wedge a b p) (lift a b c d) k (not_negative (lift a b c d) d_above))
 
                   at_third : p ≡ c → pos 0 <ℤ (lift b a d p *ℤ wedge a b c)
                   at_third e =
                       sum_second _ (wedge b a d *ℤ lift a b c p) (wedge a b p *ℤ lift a b c d) total_is
-                      (product_not_negative (wedge b a d) (lift a b c p) (weaker (wedge b a d) r.left) (lower_over a b c l p o))
+                      (product_not_negative (wedge b a d) (lift a b c p) (not_negative (wedge b a d) r.left) (lower_over a b c l p o))
                       (positive_product (wedge a b p) (lift a b c d) (subst (λ k. pos 0 <ℤ wedge a b k) (sym e) l.left) d_above)
 
               not_beyond : (z y : ℤ) → y ≡ neg_ℤ z → y ≤ℤ pos 0 → pos 0 ≤ℤ z

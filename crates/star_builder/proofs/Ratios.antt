@@ -6,7 +6,7 @@ use Rattle.std.proofs.lemmas.Int.{ints}
 use Rattle.ntfe_nums.proofs.Ring.{ring}
 use Rattle.ntfe_nums.proofs.Ring.Expression.{var, num, minus, times}
 use Rattle.ntfe_model.proofs.Listings.{Contains-here, Contains-there, Contains-cases, Contains-none}
-use Rattle.star_builder.proofs.Signs.{factor_not_negative, product_not_negative, product_not_positive, sign_of}
+use Rattle.ntfe_nums.proofs.Signs.{factor_not_negative, product_not_negative, product_not_positive, sign_of}
 
 -- ---- the least ratio
 

@@ -13,6 +13,7 @@ use Rattle.std.proofs.lemmas.List.Elements.{Contains-get_or}
 use Rattle.std.proofs.lemmas.List.Kept.{Contains-dedup, Contains-from_dedup, IsStrictlySortedBy-dedup}
 use Rattle.std.proofs.lemmas.List.Sorted.{Contains-permutation, IsPermutation-sym}
 use Rattle.std.proofs.lemmas.Map.Keys.{Less-from_sorted}
+use Rattle.ntfe_model.proofs.Lists.{Contains-map}
 use Rattle.ntfe_model.specs.Lists.{IsBelow}
 use Rattle.ntfe_model.specs.Charts.{Patch}
 use Rattle.ntfe_model.specs.Stars.{AreTogether, IsLeft, IsRestriction}
@@ -20,10 +21,6 @@ use Rattle.ntfe_model.specs.declared.triangle.Triangle.{Triangle}
 use Rattle.ntfe_model.proofs.Listings.{All-from_contains, Contains-none}
 use Rattle.star_builder.specs.Gathered.{Gathers, triangle_of}
 use Rattle.star_builder.specs.Outlines.{AreLeft}
-
--- membership in a mapped list
-Contains-map : {X Y : Type 0} (f : X → Y) (xs : List X) (x : X) → Contains xs x → Contains (map f xs) (f x)
-Contains-map f xs x c = (c.0, (let e = length-map xs f in let l = c.1 in omega arith), get_or-map f xs c.0 x (f x) c.1 ∙ ap f c.2)
 
 Contains-from_map : {X Y : Type 0} (f : X → Y) (xs : List X) (d : X) (y : Y) → Contains (map f xs) y → (x : X) × Contains xs x × (y ≡ f x)
 Contains-from_map f xs d y c =

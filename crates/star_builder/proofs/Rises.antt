@@ -10,7 +10,7 @@ use Rattle.ntfe_nums.specs.Vectors.{Vector, dot, det4, cofactors, difference, mu
 use Rattle.ntfe_nums.proofs.Ring.{Expression, ring}
 use Rattle.ntfe_nums.proofs.Ring.Expression.{var, num, plus, minus, times, neg}
 use Rattle.ntfe_nums.proofs.DetLemmas.{row, det4E, dotE, normalE, of4, det4-cofactors}
-use Rattle.star_builder.proofs.Exchanges.{cramer_form, swap_first, swap_middle, swap_last, swap_ends, swap_outer, same_front, same_odd, same_inner, same_first, same_second, same_third}
+use Rattle.ntfe_nums.proofs.Exchanges.{cramer_form, swap_first, swap_middle, swap_last, swap_ends, swap_outer, same_front, same_odd, same_inner, same_first, same_second, same_third}
 
 -- ---- a determinant as a linear form of each of its rows
 

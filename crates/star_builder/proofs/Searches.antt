@@ -4,7 +4,7 @@
 use Rattle.std.proofs.Common.{◌≡◌, ◌≢◌, ℤ, pos, ◌⊎◌, inl, inr, ⊎_elim, refl, sym, subst, List, [], ◌∷◌}
 use Rattle.std.specs.Prelude.{Contains}
 use Rattle.ntfe_model.proofs.Listings.{Contains-here, Contains-there, Contains-cases, Contains-none}
-use Rattle.star_builder.proofs.Signs.{zero_or}
+use Rattle.ntfe_nums.proofs.Signs.{zero_or}
 
 pub some_or_all : {A : Type 0} (P Q : A → Type 0) → ((x : A) → P x ⊎ Q x) → (xs : List A) → ((x : A) × Contains xs x × P x) ⊎ ((x : A) → Contains xs x → Q x)
 some_or_all P Q decide [] = inr (λ x c. Contains-none x c)

@@ -1,15 +1,12 @@
 -- The side of the hyperplane through four vectors, as a rise where all heights are 1.
 --     side_rise      the two are equal
-use Rattle.std.proofs.Common.{◌≡◌, refl, ◌∙◌, arith, ℤ, pos, ◌+ℤ◌, ◌-ℤ◌, ◌*ℤ◌, neg_ℤ, List, [], ◌∷◌}
+use Rattle.std.proofs.Common.{◌≡◌, refl, ◌∙◌, arith, ℤ, pos, ◌+ℤ◌, ◌-ℤ◌, ◌*ℤ◌, neg_ℤ}
 use Rattle.std.proofs.lemmas.Int.{ints}
 use Rattle.ntfe_nums.specs.Vectors.{Vector, difference, det4, side_of}
 use Rattle.ntfe_nums.proofs.Ring.{ring}
-use Rattle.ntfe_nums.proofs.Ring.Expression.{var, minus, neg}
-use Rattle.ntfe_nums.proofs.DetLemmas.{Row, row, det4E, of4}
-use Rattle.star_builder.proofs.Exchanges.{same_front, same_odd, same_first, same_inner, same_second, same_third}
-
-abbrev of5 : Vector → Vector → Vector → Vector → Vector → List ℤ
-of5 a b c d p = a.x1 ∷ a.x2 ∷ a.x3 ∷ a.x4 ∷ b.x1 ∷ b.x2 ∷ b.x3 ∷ b.x4 ∷ c.x1 ∷ c.x2 ∷ c.x3 ∷ c.x4 ∷ d.x1 ∷ d.x2 ∷ d.x3 ∷ d.x4 ∷ p.x1 ∷ p.x2 ∷ p.x3 ∷ p.x4 ∷ []
+use Rattle.ntfe_nums.proofs.Ring.Expression.{var, minus}
+use Rattle.ntfe_nums.proofs.DetLemmas.{Row, row, det4E, of4, of5}
+use Rattle.ntfe_nums.proofs.Exchanges.{same_front, same_odd, same_first, same_inner, same_second, same_third, second_last, first_last}
 
 -- the row of the first vector less the last
 abbrev lessE : Row
@@ -57,17 +54,9 @@ drop_fourth_of_third b c a x = drop_zero _ _ _ (less_fourth x b c a a) (same_thi
 
 -- ---- rows in another order
 
-last_to_first : (a b c d : Vector) → det4 b c d a ≡ neg_ℤ (det4 a b c d)
-unfolding det4
-last_to_first a b c d = ring (of4 a b c d) (det4E (row 4) (row 8) (row 12) (row 0)) (neg (det4E (row 0) (row 4) (row 8) (row 12))) refl
-
 third_to_first : (a b c d : Vector) → det4 b c a d ≡ det4 a b c d
 unfolding det4
 third_to_first a b c d = ring (of4 a b c d) (det4E (row 4) (row 8) (row 0) (row 12)) (det4E (row 0) (row 4) (row 8) (row 12)) refl
-
-fourth_to_second : (a b c d : Vector) → det4 a c d b ≡ det4 a b c d
-unfolding det4
-fourth_to_second a b c d = ring (of4 a b c d) (det4E (row 0) (row 8) (row 12) (row 4)) (det4E (row 0) (row 4) (row 8) (row 12)) refl
 
 two_swaps : (a b c d : Vector) → det4 b a d c ≡ det4 a b c d
 unfolding det4
@@ -77,7 +66,7 @@ pub side_rise : (a b c d x : Vector) → side_of a b c d x ≡ det4 a b c d *ℤ
 side_rise a b c d x =
     less_first b (difference c a) (difference d a) (difference x a) a
     ∙ (λ i. second i -ℤ first i)
-    ∙ (λ i. (((last_to_first x b c d i -ℤ last_to_first a b c d i) -ℤ third_to_first a b c x i) -ℤ two_swaps a b x d i) -ℤ fourth_to_second a x c d i)
+    ∙ (λ i. (((first_last x b c d i -ℤ first_last a b c d i) -ℤ third_to_first a b c x i) -ℤ two_swaps a b x d i) -ℤ second_last a x c d i)
     ∙ sum (det4 a b c d) (det4 x b c d) (det4 a x c d) (det4 a b x d) (det4 a b c x)
   where
     first : det4 a (difference c a) (difference d a) (difference x a) ≡ det4 a c d x

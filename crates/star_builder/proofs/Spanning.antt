@@ -13,9 +13,9 @@ use Rattle.ntfe_nums.proofs.DetLemmas.{row, dotE}
 use Rattle.ntfe_model.specs.Pairs.{VertexLists}
 use Rattle.ntfe_model.specs.Reflexive.{IsTight, IsTightOnFour, IsReflexive, at}
 use Rattle.ntfe_model.proofs.PlaneNumbers.{zero_factor}
-use Rattle.star_builder.proofs.Exchanges.{same_front}
+use Rattle.ntfe_nums.proofs.Exchanges.{same_front}
 use Rattle.star_builder.proofs.Normals.{form_fixed, normal_fixed}
-use Rattle.star_builder.proofs.Signs.{zero_or}
+use Rattle.ntfe_nums.proofs.Signs.{zero_or}
 
 abbrev pub spot : Vector → List Vector → ℕ → Vector
 spot x vs zero = x

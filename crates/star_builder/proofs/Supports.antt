@@ -17,7 +17,7 @@ use Rattle.ntfe_model.proofs.Listings.{listing_filter, listing_range}
 use Rattle.ntfe_model.proofs.PlaneNumbers.{zero_factor}
 use Rattle.star_builder.proofs.LowSimplices.{IsLow, IsGeneric}
 use Rattle.star_builder.proofs.Rises.{gap, gap_rise, rise, volume}
-use Rattle.star_builder.proofs.Signs.{above_zero, factor_not_negative, product_not_negative, square_not_negative}
+use Rattle.ntfe_nums.proofs.Signs.{above_zero, factor_not_negative, product_not_negative, square_not_negative}
 
 -- ---- the points of a facet
 

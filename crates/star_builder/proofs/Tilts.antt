@@ -9,12 +9,11 @@ use Rattle.ntfe_nums.specs.Vectors.{Vector, cofactors, difference, multiple}
 use Rattle.ntfe_nums.proofs.Ring.{ring}
 use Rattle.ntfe_nums.proofs.Ring.Expression.{var, num, minus, times, neg}
 use Rattle.ntfe_nums.proofs.DetLemmas.{det4-cofactors}
-use Rattle.ntfe_model.proofs.PlaneNumbers.{positive_product}
-use Rattle.star_builder.proofs.Exchanges.{swap_middle, swap_last, same_first, same_second, same_third}
+use Rattle.ntfe_nums.proofs.Exchanges.{swap_middle, swap_last, same_first, same_second, same_third}
 use Rattle.star_builder.proofs.LowSimplices.{turned_not_zero}
 use Rattle.star_builder.proofs.Ratios.{tilted, IsTouched, least_ratio}
 use Rattle.star_builder.proofs.Rises.{gap, gap_tilt, volume}
-use Rattle.star_builder.proofs.Signs.{square_positive, zero_out}
+use Rattle.ntfe_nums.proofs.Signs.{square_positive, zero_out, positive_product}
 
 module _ {A : Type 0} (place : A → Vector) (height : A → ℤ) (xs : List A) where
   -- no thing of the list lies below the form

@@ -13,9 +13,8 @@ use Rattle.ntfe_model.specs.declared.point.Point.{Point}
 use Rattle.ntfe_model.proofs.PlaneNumbers.{zero_factor}
 use Rattle.star_builder.proofs.FourWeights.{Weights, IsMixOf, dot_mix}
 use Rattle.star_builder.proofs.LowSimplices.{IsLow}
-use Rattle.star_builder.proofs.Planar.{weaker}
 use Rattle.star_builder.proofs.Rises.{gap, gap_multiple, rise, rise_gap, rise_first, rise_second, rise_third, rise_fourth, through, volume}
-use Rattle.star_builder.proofs.Signs.{factor_not_negative, product_not_negative, same_or, square_positive, zero_out}
+use Rattle.ntfe_nums.proofs.Signs.{factor_not_negative, product_not_negative, same_or, square_positive, zero_out, not_negative}
 
 -- the weights of three points that mix to a fourth
 abbrev pub three_weights : ℤ → ℤ → ℤ → ℤ → Weights
@@ -34,7 +33,7 @@ module _ (xs : List Point) (v : ℕ → ℤ) (m : Vector) (a b c d : ℕ) (low :
       ⊎_elim (level a (rise_first at v a b c d)) (λ na.
       ⊎_elim (level b (rise_second at v a b c d)) (λ nb.
       ⊎_elim (level c (rise_third at v a b c d)) (λ nc.
-      ⊎_elim (level d (rise_fourth at v a b c d)) (λ nd. weaker (det *ℤ rise at v a b c d x) (low.above x n na nb nc nd t))
+      ⊎_elim (level d (rise_fourth at v a b c d)) (λ nd. not_negative (det *ℤ rise at v a b c d x) (low.above x n na nb nc nd t))
       (same_or x d)) (same_or x c)) (same_or x b)) (same_or x a)
     where
       zero : (z : ℤ) → z ≡ pos 0 → pos 0 ≤ℤ z

@@ -5,7 +5,6 @@
 use Rattle.std.proofs.Common.{◌≡◌, ◌≢◌, ℕ, zero, suc, ◌+◌, ◌≤◌, ◌==◌, ◌⊎◌, inl, inr, ⊎_elim, Bool, true, false, cond, refl, sym, ap, ◌∙◌, subst, arith, ℤ, pos, negsuc, ◌+ℤ◌, ◌-ℤ◌, ◌*ℤ◌, ◌<ℤ◌, neg_ℤ, List, [], ◌∷◌, map, unsigned_abs}
 use Rattle.std.specs.Prelude.{Contains}
 use Rattle.std.proofs.lemmas.Int.{ints}
-use Rattle.std.proofs.lemmas.Bool.Decides.{nat_tests}
 use Rattle.ntfe_nums.specs.Vectors.{Vector, vector_sum, multiple, det4, sign}
 use Rattle.ntfe_nums.proofs.Ring.{Expression, ring}
 use Rattle.ntfe_nums.proofs.Ring.Expression.{var, num, plus, minus, times, neg}
@@ -18,8 +17,10 @@ use Rattle.ntfe_model.specs.Stars.{IsFirstPositive, IsMixture, IsLexAbove, push_
 use Rattle.ntfe_model.specs.declared.point.Point.{Point}
 use Rattle.ntfe_model.proofs.Listings.{Contains-cases, Contains-none}
 use Rattle.ntfe_model.proofs.SmallVectors.{small_size}
-use Rattle.ntfe_model.proofs.PlaneNumbers.{positive_product, positive_factor}
-use Rattle.star_builder.proofs.Exchanges.{cramer2, cramer3, cramer4}
+use Rattle.ntfe_model.proofs.PlaneNumbers.{positive_factor}
+use Rattle.ntfe_nums.proofs.Exchanges.{cramer2, cramer3, cramer4}
+use Rattle.ntfe_nums.proofs.Tests.{same_from_test, other_from_test, cond_is}
+use Rattle.ntfe_nums.proofs.Signs.{positive_product}
 use Rattle.star_builder.proofs.FourPoints.{one_at, one_here, one_elsewhere, factors_fixed}
 use Rattle.star_builder.proofs.Rises.{rise, volume}
 use Rattle.star_builder.proofs.Weights.{weight, weighed, leader_decides}
@@ -108,16 +109,6 @@ first_of f (j ∷ js) (pos zero) = by (first_of f js (f j))
 
 -- ---- push coefficients as sums
 
-cond_is : (t : Bool) (x y z : ℤ) → (t ≡ true → x ≡ z) → (t ≡ false → y ≡ z) → cond t x y ≡ z
-cond_is true x y z f g = f refl
-cond_is false x y z f g = g refl
-
-test_true : (m n : ℕ) → (m == n) ≡ true → m ≡ n
-test_true m n e = grind (arith, nat_tests)
-
-test_false : (m n : ℕ) → (m == n) ≡ false → m ≢ n
-test_false m n e q = absurd (grind (arith, nat_tests))
-
 abbrev pub four_factors : ℤ → ℤ → ℤ → ℤ → ℤ → ℤ → ℤ → ℤ → ℤ → ℤ → ℤ
 four_factors size l1 l2 l3 l4 o o1 o2 o3 o4 = size *ℤ o -ℤ (l1 *ℤ o1 +ℤ l2 *ℤ o2 +ℤ l3 *ℤ o3 +ℤ l4 *ℤ o4)
 
@@ -151,17 +142,17 @@ module _ (a b c d p : ℕ) (five : AreFive a b c d p) (size l1 l2 l3 l4 : ℤ) w
 
   push_is : (k : ℕ) → push_coefficient size (a, l1) (b, l2) (c, l3) (d, l4) p k ≡ factors_at k
   push_is k =
-      cond_is (k == p) _ _ _ (λ t. let e = test_true k p t in
+      cond_is (k == p) _ _ _ (λ t. let e = same_from_test k p t in
       omega (arith, ints) ∙ at_numbers (pos 1) (pos 0) (pos 0) (pos 0) (pos 0) k (one_here p k e) (off a k p e five.pa) (off b k p e five.pb) (off c k p e five.pc) (off d k p e five.pd))
-      (λ np. cond_is (k == a) _ _ _ (λ t. let e = test_true k a t in
-      omega (arith, ints) ∙ at_numbers (pos 0) (pos 1) (pos 0) (pos 0) (pos 0) k (one_elsewhere p k (test_false k p np)) (one_here a k e) (off b k a e five.ab) (off c k a e five.ac) (off d k a e five.ad))
-      (λ na. cond_is (k == b) _ _ _ (λ t. let e = test_true k b t in
-      omega (arith, ints) ∙ at_numbers (pos 0) (pos 0) (pos 1) (pos 0) (pos 0) k (one_elsewhere p k (test_false k p np)) (one_elsewhere a k (test_false k a na)) (one_here b k e) (off c k b e five.bc) (off d k b e five.bd))
-      (λ nb. cond_is (k == c) _ _ _ (λ t. let e = test_true k c t in
-      omega (arith, ints) ∙ at_numbers (pos 0) (pos 0) (pos 0) (pos 1) (pos 0) k (one_elsewhere p k (test_false k p np)) (one_elsewhere a k (test_false k a na)) (one_elsewhere b k (test_false k b nb)) (one_here c k e) (off d k c e five.cd))
-      (λ nc. cond_is (k == d) _ _ _ (λ t. let e = test_true k d t in
-      omega (arith, ints) ∙ at_numbers (pos 0) (pos 0) (pos 0) (pos 0) (pos 1) k (one_elsewhere p k (test_false k p np)) (one_elsewhere a k (test_false k a na)) (one_elsewhere b k (test_false k b nb)) (one_elsewhere c k (test_false k c nc)) (one_here d k e))
-      (λ nd. omega (arith, ints) ∙ at_numbers (pos 0) (pos 0) (pos 0) (pos 0) (pos 0) k (one_elsewhere p k (test_false k p np)) (one_elsewhere a k (test_false k a na)) (one_elsewhere b k (test_false k b nb)) (one_elsewhere c k (test_false k c nc)) (one_elsewhere d k (test_false k d nd)))))))
+      (λ np. cond_is (k == a) _ _ _ (λ t. let e = same_from_test k a t in
+      omega (arith, ints) ∙ at_numbers (pos 0) (pos 1) (pos 0) (pos 0) (pos 0) k (one_elsewhere p k (other_from_test k p np)) (one_here a k e) (off b k a e five.ab) (off c k a e five.ac) (off d k a e five.ad))
+      (λ na. cond_is (k == b) _ _ _ (λ t. let e = same_from_test k b t in
+      omega (arith, ints) ∙ at_numbers (pos 0) (pos 0) (pos 1) (pos 0) (pos 0) k (one_elsewhere p k (other_from_test k p np)) (one_elsewhere a k (other_from_test k a na)) (one_here b k e) (off c k b e five.bc) (off d k b e five.bd))
+      (λ nb. cond_is (k == c) _ _ _ (λ t. let e = same_from_test k c t in
+      omega (arith, ints) ∙ at_numbers (pos 0) (pos 0) (pos 0) (pos 1) (pos 0) k (one_elsewhere p k (other_from_test k p np)) (one_elsewhere a k (other_from_test k a na)) (one_elsewhere b k (other_from_test k b nb)) (one_here c k e) (off d k c e five.cd))
+      (λ nc. cond_is (k == d) _ _ _ (λ t. let e = same_from_test k d t in
+      omega (arith, ints) ∙ at_numbers (pos 0) (pos 0) (pos 0) (pos 0) (pos 1) k (one_elsewhere p k (other_from_test k p np)) (one_elsewhere a k (other_from_test k a na)) (one_elsewhere b k (other_from_test k b nb)) (one_elsewhere c k (other_from_test k c nc)) (one_here d k e))
+      (λ nd. omega (arith, ints) ∙ at_numbers (pos 0) (pos 0) (pos 0) (pos 0) (pos 0) k (one_elsewhere p k (other_from_test k p np)) (one_elsewhere a k (other_from_test k a na)) (one_elsewhere b k (other_from_test k b nb)) (one_elsewhere c k (other_from_test k c nc)) (one_elsewhere d k (other_from_test k d nd)))))))
 
   abbrev fourE : Expression → Expression → Expression → Expression → Expression → Expression
   fourE o o1 o2 o3 o4 = minus (times (var 0) o) (plus (plus (plus (times (var 1) o1) (times (var 2) o2)) (times (var 3) o3)) (times (var 4) o4))
@@ -330,7 +321,7 @@ module _ (w : List ℤ) (order : List ℕ) where
       where
         at_itself : (t : Bool) → (p == p) ≡ t → coefficient p ≡ size0
         at_itself true e = ap (λ s. cond s size0 (cond (p == a) (neg_ℤ m1) (cond (p == b) (neg_ℤ m2) (cond (p == c) (neg_ℤ m3) (cond (p == d) (neg_ℤ m4) (pos 0)))))) e
-        at_itself false e = absurd (test_false p p e refl)
+        at_itself false e = absurd (other_from_test p p e refl)
 
         no : (z : ℤ) → z ≢ pos 0 → pos (unsigned_abs z) ≡ pos 0 → ⊥
         no z n e = absurd (let l = size_above z n in omega (arith, ints, l, e))

@@ -2,7 +2,6 @@ pub mod Fours
 pub mod Facets
 pub mod Others
 pub mod Added
-pub mod Flats
 pub mod Outlines
 pub mod Gathered
 pub mod Frames

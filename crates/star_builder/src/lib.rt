@@ -5,7 +5,6 @@ mod above;
 mod closing;
 mod extendable;
 mod facets;
-mod flat;
 mod four;
 mod frame;
 mod gather;

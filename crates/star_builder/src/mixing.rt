@@ -13,6 +13,7 @@ ghost use Rattle.star_builder.specs.Frames.{IsFrame};
 use crate::four::Four;
 use crate::frame::{Frame, Mixture};
 use ntfe_model::{Point, Vec4};
+use ntfe_nums::{short_normal, short_product};
 
 /// Where the point with this number lies.
 pub fn place(points: &[Point], number: u32) -> &Vec4
@@ -24,23 +25,7 @@ pub fn place(points: &[Point], number: u32) -> &Vec4
     &points[number as usize - 1].place
 }
 
-/// The determinant of three columns of three rows.
-#[inline(always)]
-fn minor(u: &[i64; 4], v: &[i64; 4], w: &[i64; 4], i: usize, j: usize, k: usize) -> i64
-    requires first { AreWithin (2 ^ 11) u.now }
-    requires second { AreWithin (2 ^ 11) v.now }
-    requires third { AreWithin (2 ^ 11) w.now }
-    requires column_i { i < 4 }
-    requires column_j { j < 4 }
-    requires column_k { k < 4 }
-    ensures value { result ≡ det3 (slice_index_or u.now i (pos 0)) (slice_index_or u.now j (pos 0)) (slice_index_or u.now k (pos 0)) (slice_index_or v.now i (pos 0)) (slice_index_or v.now j (pos 0)) (slice_index_or v.now k (pos 0)) (slice_index_or w.now i (pos 0)) (slice_index_or w.now j (pos 0)) (slice_index_or w.now k (pos 0)) }
-    ensures size { AreWithin (2 ^ 36) (result ∷ []) }
-{
-    w[k] * (u[i] * v[j] - u[j] * v[i]) - w[j] * (u[i] * v[k] - u[k] * v[i])
-        + w[i] * (u[j] * v[k] - u[k] * v[j])
-}
-
-/// The normal of three vectors: its product with a fourth is the determinant of the four.
+/// The normal of three points: its product with a fourth is the determinant of the four.
 #[inline(always)]
 fn normal(a: &Vec4, b: &Vec4, c: &Vec4) -> [i64; 4]
     requires first { IsSmall a.now }
@@ -49,14 +34,7 @@ fn normal(a: &Vec4, b: &Vec4, c: &Vec4) -> [i64; 4]
     ensures value { vector result ≡ cofactors a.now b.now c.now }
     ensures large { AreWithin (2 ^ 36) result }
 {
-    let u = a.coordinates();
-    let v = b.coordinates();
-    let w = c.coordinates();
-    let first = minor(u, v, w, 2, 1, 3);
-    let second = minor(u, v, w, 0, 2, 3);
-    let third = minor(u, v, w, 1, 0, 3);
-    let fourth = minor(u, v, w, 0, 1, 2);
-    [first, second, third, fourth]
+    short_normal(a.coordinates(), b.coordinates(), c.coordinates())
 }
 
 /// The scalar product of a normal and a point.
@@ -67,8 +45,7 @@ fn product(n: &[i64; 4], x: &Vec4) -> i64
     ensures value { result ≡ dot (vector n.now) x.now }
     ensures size { unsigned_abs result ≤ 2 ^ 48 }
 {
-    let x = x.coordinates();
-    n[0] * x[0] + n[1] * x[1] + n[2] * x[2] + n[3] * x[3]
+    short_product(n, x.coordinates())
 }
 
 /// The determinant of four points.

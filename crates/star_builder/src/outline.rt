@@ -3,13 +3,12 @@ ghost use Rattle.std.specs.Prelude.{◌≡◌, ◌≤◌, ◌^◌, true, false, 
 ghost use Rattle.ntfe_nums.specs.Vectors.{area};
 ghost use Rattle.ntfe_model.specs.Pairs.{IsSmall};
 ghost use Rattle.ntfe_model.specs.Charts.{IsOf, place as place_in, axes as axes_of_patch};
-ghost use Rattle.star_builder.specs.Flats.{AreAxes};
+ghost use Rattle.ntfe_model.specs.Flats.{AreAxes};
 ghost use Rattle.star_builder.specs.Outlines.{patch, AreKnown, AreLeft};
 
-use crate::flat::{flat_area, flatten};
 use crate::mixing::place;
 use crate::span::axes_of;
-use ntfe_model::Point;
+use ntfe_model::{Point, flat_area, flatten};
 
 /// A two-face by the numbers of its points, with the coordinates in which it is looked at.
 #[derive(Drop)]

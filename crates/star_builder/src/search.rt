@@ -5,15 +5,15 @@ ghost use Rattle.ntfe_model.specs.Pairs.{IsSmall};
 ghost use Rattle.ntfe_model.specs.Points.{place_of_point};
 ghost use Rattle.ntfe_model.specs.Reflexive.{at, HasFacet};
 ghost use Rattle.ntfe_model.specs.Stars.{IsMember, order_of};
-ghost use Rattle.star_builder.specs.Facets.{AreMasks, AreTightBits, IsFacetOf};
+ghost use Rattle.ntfe_model.specs.TightBits.{AreTightBits, IsFacetOf};
+ghost use Rattle.star_builder.specs.Facets.{AreMasks};
 ghost use Rattle.star_builder.specs.Fours.{AreRising, AreIndependent, members_of};
 ghost use Rattle.star_builder.specs.Others.{IsOther, AreOthersAbove};
 
 use crate::above::is_lex_above;
-use crate::facets::is_tight;
 use crate::four::Four;
 use crate::mixing::{determinant, frame_of, place};
-use ntfe_model::{Point, Push, Vec4};
+use ntfe_model::{Point, Push, Vec4, is_tight};
 
 /// The points and heights of a star, with the facets through each point as bits.
 #[derive(Drop)]

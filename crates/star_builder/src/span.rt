@@ -4,12 +4,11 @@ ghost use Rattle.ntfe_nums.specs.Vectors.{area, origin};
 ghost use Rattle.ntfe_model.specs.Pairs.{IsSmall};
 ghost use Rattle.ntfe_model.specs.Points.{place_of_point};
 ghost use Rattle.ntfe_model.specs.Charts.{axes, spans as spans_patch};
-ghost use Rattle.star_builder.specs.Flats.{AreAxes, flat_of, IsSmallFlat, area_of_flats};
+ghost use Rattle.ntfe_model.specs.Flats.{AreAxes, flat_of, IsSmallFlat, area_of_flats};
 ghost use Rattle.star_builder.specs.Outlines.{patch, AreKnown};
 
-use crate::flat::{Flat, flat_area, flatten};
 use crate::mixing::place;
-use ntfe_model::Point;
+use ntfe_model::{Flat, Point, flat_area, flatten};
 
 /// Whether some point of the list has an area with the two points.
 fn has_third(numbers: &[u32], points: &[Point], axes: (usize, usize), a: &Flat, b: &Flat) -> bool

@@ -5,8 +5,7 @@ ghost use Rattle.ntfe_model.specs.Points.{is_tight as tight_at};
 ghost use Rattle.two_faces.specs.Meets.{IsOnBoth, IsThird, IsSecond, IsFirst};
 
 use crate::plane::span_plane;
-use lattice_points::is_tight;
-use ntfe_model::Vec4;
+use ntfe_model::{Vec4, is_tight};
 
 /// Whether both dual vertices are tight on x.
 pub fn is_on_both(m: &Vec4, n: &Vec4, x: &Vec4) -> bool

@@ -8,6 +8,7 @@ use Rattle.ntfe_nums.proofs.Ring.Expression.{var, num, minus}
 use Rattle.ntfe_nums.proofs.DetLemmas.{det3E}
 use Rattle.ntfe_nums.proofs.Machine.{AreWithin-four, value-size, back, exact, fits}
 use Rattle.ntfe_nums.proofs.cofactors4.Goals as goal
+use Rattle.ntfe_nums.proofs.Signs.{zero_minus}
 
 abbrev word : ℤ → ℤ
 word z = to_z w128 (of_z w128 z)
@@ -56,9 +57,6 @@ module _ (xs ys zs : List ℤ) (a : AreWithin (2 ^ 21) xs) (b : AreWithin (2 ^ 2
 
 abbrev negated : Expression
 negated = minus (num (pos 0)) (var 0)
-
-zero_minus : (z : ℤ) → pos 0 -ℤ z ≡ neg_ℤ z
-zero_minus z = omega (arith, ints)
 
 neg_fits : (r : ℤ) → unsigned_abs r ≤ 2 ^ 66 → FitsSigned w128 (pos 0 -ℤ word r)
 neg_fits r s = fits w128 (r ∷ []) (2 ^ 66 ∷ []) (s, tt) negated refl

@@ -1,4 +1,4 @@
-use Rattle.std.proofs.Common.{ℤ, pos, ◌≡◌, ◌≤◌, ◌^◌, ◌∙◌, ap, sym, subst, arith, refl, List, [], ◌∷◌, ◌-ℤ◌, neg_ℤ, unsigned_abs}
+use Rattle.std.proofs.Common.{ℤ, pos, ◌≡◌, ◌≤◌, ◌^◌, ◌∙◌, ap, sym, subst, arith, refl, List, [], ◌∷◌, neg_ℤ, unsigned_abs}
 use Rattle.std.proofs.lemmas.Int.{ints}
 use Rattle.std.specs.Int.{w128}
 use Rattle.ntfe_nums.specs.Vectors.{vector, numbers, dot, difference, cofactors}
@@ -6,13 +6,12 @@ use Rattle.ntfe_nums.proofs.Ring.{Expression}
 use Rattle.ntfe_nums.proofs.Ring.Expression.{var, num, minus}
 use Rattle.ntfe_nums.proofs.Machine.{exact, fits}
 use Rattle.ntfe_nums.proofs.LevelLemmas.{level_size}
+use Rattle.ntfe_nums.proofs.SideLemmas.{side_is}
 use Rattle.ntfe_nums.proofs.normal4.Goals as goal
+use Rattle.ntfe_nums.proofs.Signs.{zero_minus}
 
 abbrev negated : Expression
 negated = minus (num (pos 0)) (var 0)
-
-zero_minus : (z : ℤ) → pos 0 -ℤ z ≡ neg_ℤ z
-zero_minus z = omega (arith, ints)
 
 small_neg : (z w : ℤ) → w ≡ neg_ℤ z → unsigned_abs z ≤ 2 ^ 90 → unsigned_abs w ≤ 2 ^ 90
 small_neg z w e h = let P : ℤ → Type 0 = λ y. unsigned_abs y ≤ 2 ^ 90 in subst P (sym e) (omega (arith, ints, h))
@@ -42,3 +41,9 @@ pub returns-clause-normal : goal.returns-clause-normal
 returns-clause-normal c =
     chain c.args.a.now c.args.b.now c.args.c.now c.args.d.now c.wide_difference-u.result c.wide_difference-v.result c.wide_difference-w.result c.cofactors4-n.result
     c.wide_difference-u.ensures.value c.wide_difference-v.ensures.value c.wide_difference-w.ensures.value c.cofactors4-n.ensures.value
+
+pub returns-clause-plane : goal.returns-clause-plane
+returns-clause-plane c = λ x. side_is (vector c.args.a.now) (vector c.args.b.now) (vector c.args.c.now) (vector c.args.d.now) x _ _ (returns-clause-normal c) (returns-clause-constant c)
+
+pub returns-clause-independent : goal.returns-clause-independent
+returns-clause-independent c = let e = returns-clause-normal c in (λ n z. n (e ∙ z), λ n z. n (sym e ∙ z))

@@ -1,17 +1,11 @@
-use Rattle.std.proofs.Common.{ℕ, ℤ, ◌≡◌, ◌==◌, ◌∙◌, Bool, true, false, arith, sym, ap, refl, w64, to_z, of_z, List, [], ◌∷◌, get_or, pos, to_z-of_z}
-use Rattle.std.proofs.lemmas.Bool.Decides.{nat_tests}
+use Rattle.std.proofs.Common.{ℕ, ℤ, ◌≡◌, ◌∙◌, Bool, true, false, sym, ap, refl, w64, to_z, of_z, List, [], ◌∷◌, get_or, pos, to_z-of_z}
 use Rattle.ntfe_nums.specs.Sizes.{AreWithin}
 use Rattle.ntfe_nums.proofs.Ring.Expression.{var, times}
 use Rattle.ntfe_nums.proofs.Machine.{AreBounded, AreWithin-four, exact, fits}
+use Rattle.ntfe_nums.proofs.Tests.{same_from_test, test_from_same}
 use Rattle.face_chart.specs.declared.segment.Share.{Share}
 use Rattle.face_chart.specs.Steps.{IsSmallShare}
 use Rattle.face_chart.proofs.segment.is_share_at.Goals as goal
-
-yes_same : (m n : ℕ) → (m == n) ≡ true → m ≡ n
-yes_same m n e = grind (arith, nat_tests)
-
-same_yes : (m n : ℕ) → m ≡ n → (m == n) ≡ true
-same_yes m n e = grind (arith, nat_tests)
 
 not_both : {X : Type 0} (b : Bool) → b ≡ true → b ≡ false → X
 not_both b e f = let g : true ≡ false = sym e ∙ f in cc
@@ -42,6 +36,6 @@ returns c =
     let f = fits w64 vs bounds h (times (var 0) (var 1)) refl in
     let g = fits w64 vs bounds h (times (var 2) (var 3)) refl in
     record {
-      when_true = λ t. sym p ∙ ap (to_z w64) (yes_same _ _ t) ∙ q;
-      when_false = λ t e. not_both _ (same_yes _ _ (ap (of_z w64) (sym (to_z-of_z f) ∙ p ∙ e ∙ sym q ∙ to_z-of_z g))) t;
+      when_true = λ t. sym p ∙ ap (to_z w64) (same_from_test _ _ t) ∙ q;
+      when_false = λ t e. not_both _ (test_from_same _ _ (ap (of_z w64) (sym (to_z-of_z f) ∙ p ∙ e ∙ sym q ∙ to_z-of_z g))) t;
     }

@@ -2,7 +2,7 @@ use Rattle.std.proofs.Common.{ℕ, ℤ, ◌≡◌, ◌≤◌, ◌∙◌, arith, 
 use Rattle.ntfe_nums.specs.Sizes.{AreWithin}
 use Rattle.ntfe_nums.proofs.DetLemmas.{dotE, row}
 use Rattle.ntfe_nums.proofs.Machine.{AreBounded, AreWithin-four, AreWithin-weaker, value-size}
-use Rattle.face_chart.proofs.FlatLemmas.{word_back}
+use Rattle.ntfe_model.proofs.FlatLemmas.{word_back}
 use Rattle.face_chart.proofs.segment.product.Goals as goal
 
 abbrev vars : List ℤ → List ℤ → List ℤ

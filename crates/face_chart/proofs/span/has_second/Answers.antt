@@ -2,10 +2,11 @@ use Rattle.std.proofs.Common.{◌≡◌, ◌≢◌, ◌∙◌, sym, ap, subst, a
 use Rattle.std.specs.Prelude.{All, Any}
 use Rattle.std.proofs.lemmas.List.{take_all}
 use Rattle.std.proofs.lemmas.List.Elements.{All-same, All-more}
-use Rattle.face_chart.specs.declared.flat.Flat.{Flat}
-use Rattle.face_chart.specs.Flats.{flat_of, area_of_flats}
+use Rattle.ntfe_model.proofs.Lists.{any_here}
+use Rattle.ntfe_model.specs.declared.flat.Flat.{Flat}
+use Rattle.ntfe_model.specs.Flats.{flat_of, area_of_flats}
 use Rattle.face_chart.specs.Tables.{place_at}
-use Rattle.face_chart.proofs.PatchLemmas.{place_here, any_here}
+use Rattle.face_chart.proofs.PatchLemmas.{place_here}
 use Rattle.face_chart.proofs.span.has_second.Goals as goal
 
 pub loop-number-preserved : goal.loop-number-preserved

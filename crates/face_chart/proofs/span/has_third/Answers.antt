@@ -1,10 +1,12 @@
 use Rattle.std.proofs.Common.{◌≡◌, ◌≢◌, ◌∙◌, sym, ap, arith, take, pos, ℕ}
 use Rattle.std.proofs.lemmas.List.{take_all}
 use Rattle.std.proofs.lemmas.List.Elements.{All-same, All-more}
-use Rattle.face_chart.specs.Flats.{flat_of, area_of_flats}
+use Rattle.ntfe_nums.proofs.Signs.{bits_of_zero}
+use Rattle.ntfe_model.proofs.Lists.{any_here}
+use Rattle.ntfe_model.specs.Flats.{flat_of, area_of_flats}
 use Rattle.face_chart.specs.Tables.{place_at}
-use Rattle.face_chart.proofs.FlatLemmas.{zero_from_bits, bits_of_zero}
-use Rattle.face_chart.proofs.PatchLemmas.{place_here, any_here}
+use Rattle.ntfe_model.proofs.FlatLemmas.{zero_from_bits}
+use Rattle.face_chart.proofs.PatchLemmas.{place_here}
 use Rattle.face_chart.proofs.span.has_third.Goals as goal
 
 pub loop-number-preserved : goal.loop-number-preserved

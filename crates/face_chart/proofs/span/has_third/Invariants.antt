@@ -1,6 +1,6 @@
 use Rattle.std.proofs.Common.{◌≡◌, take, pos}
 use Rattle.std.specs.Prelude.{All}
-use Rattle.face_chart.specs.Flats.{flat_of, area_of_flats}
+use Rattle.ntfe_model.specs.Flats.{flat_of, area_of_flats}
 use Rattle.face_chart.specs.Tables.{place_at}
 use Rattle.face_chart.proofs.span.has_third.Given as goal
 

@@ -1,6 +1,6 @@
 use Rattle.std.proofs.Common.{◌<◌, ◌∙◌, ap, arith, get_or, length}
 use Rattle.std.proofs.lemmas.List.Elements.{Contains-get_or}
-use Rattle.face_chart.specs.Flats.{flat_of}
+use Rattle.ntfe_model.specs.Flats.{flat_of}
 use Rattle.face_chart.proofs.PatchLemmas.{place_here}
 use Rattle.face_chart.proofs.SpanLemmas.{spans_decided}
 use Rattle.face_chart.proofs.span.spans.Goals as goal

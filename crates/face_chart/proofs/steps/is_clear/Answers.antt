@@ -1,7 +1,8 @@
-use Rattle.std.proofs.Common.{◌≡◌, ◌≢◌, sym, subst, ℤ, pos, negsuc, ◌<ℤ◌, ◌≤ℤ◌, Bool, true, false, not}
+use Rattle.std.proofs.Common.{◌≡◌, ◌≢◌, sym, subst, ℤ, pos, negsuc, ◌<ℤ◌, ◌≤ℤ◌}
 use Rattle.ntfe_nums.specs.Vectors.{Vector, sign}
+use Rattle.ntfe_nums.proofs.Tests.{not_false, not_true}
 use Rattle.ntfe_model.specs.Charts.{IsOnSegment}
-use Rattle.face_chart.proofs.FlatLemmas.{negative_from_test, not_negative_from_test}
+use Rattle.ntfe_model.proofs.FlatLemmas.{negative_from_test, not_negative_from_test}
 use Rattle.ntfe_model.proofs.PlaneNumbers.{sign_negative, sign_not_right}
 use Rattle.ntfe_model.proofs.UnitTriples.{area_of}
 use Rattle.face_chart.proofs.steps.is_clear.Goals as goal
@@ -11,14 +12,6 @@ not_right x y e h = sign_not_right y (let P : ℤ → Type 0 = λ z. pos 0 ≤�
 
 right : (x y : ℤ) → x ≡ y → x <ℤ pos 0 → sign y ≡ negsuc 0
 right x y e h = sign_negative y (let P : ℤ → Type 0 = λ z. z <ℤ pos 0 in subst P e h)
-
-not_true : (b : Bool) → not b ≡ true → b ≡ false
-not_true true e = cc
-not_true false e = cc
-
-not_false : (b : Bool) → not b ≡ false → b ≡ true
-not_false true e = cc
-not_false false e = cc
 
 pub returns-then-area-lt0 : goal.returns-then-area-lt0
 returns-then-area-lt0 c =

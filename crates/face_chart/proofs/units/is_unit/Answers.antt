@@ -4,7 +4,7 @@ use Rattle.std.proofs.lemmas.Int.{ints}
 use Rattle.std.proofs.lemmas.List.Elements.{All-contains, Contains-get_or}
 use Rattle.ntfe_model.specs.Charts.{spot_numbers}
 use Rattle.face_chart.specs.Units.{IsReached}
-use Rattle.face_chart.proofs.FlatLemmas.{most_zero_from_test, over_zero_from_test}
+use Rattle.ntfe_model.proofs.FlatLemmas.{most_zero_from_test, over_zero_from_test}
 use Rattle.ntfe_model.proofs.PlaneNumbers.{sign_positive}
 use Rattle.ntfe_model.proofs.UnitTriples.{area_of, unit_area}
 use Rattle.face_chart.proofs.UnitLemmas.{kept_more, kept_all}

@@ -1,5 +1,5 @@
 use Rattle.std.proofs.Common.{ℤ, ◌≡◌, ◌≤◌, sym, subst, ◌∙◌, unsigned_abs, w64, to_z, of_z}
-use Rattle.face_chart.proofs.FlatLemmas.{word_back}
+use Rattle.ntfe_model.proofs.FlatLemmas.{word_back}
 use Rattle.face_chart.proofs.UnitLemmas.{unit_area_found, unit_area_none}
 use Rattle.face_chart.proofs.units.unit_area.Goals as goal
 

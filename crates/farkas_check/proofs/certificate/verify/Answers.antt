@@ -2,7 +2,7 @@ use Rattle.std.proofs.Common.{◌≡◌, ◌<◌, false, sym, ap, subst, refl, L
 use Rattle.std.specs.Prelude.{All, AllPairs}
 use Rattle.ntfe_model.specs.declared.nogood.Part.{Part}
 use Rattle.ntfe_model.specs.declared.nogood.Term.{Term}
-use Rattle.farkas_check.specs.Folds.{IsSmallFold}
+use Rattle.ntfe_model.specs.Choices.{IsSmallFold}
 use Rattle.farkas_check.specs.Parts.{KeepsPart, HasItemOf}
 use Rattle.farkas_check.proofs.Refuting.{blocked_refuted}
 use Rattle.farkas_check.proofs.TermLemmas.{terms_small, certificate_of, cancels, answers}

@@ -5,7 +5,7 @@ use Rattle.ntfe_nums.proofs.Ring.Expression.{var, plus, minus}
 use Rattle.ntfe_nums.proofs.Machine.{AreBounded, exact, fits, value-size}
 use Rattle.ntfe_model.specs.Certificates.{where_equal, fold_coefficient}
 use Rattle.ntfe_model.specs.declared.nogood.Fold.{Fold}
-use Rattle.farkas_check.specs.Folds.{IsSmallFold}
+use Rattle.ntfe_model.specs.Choices.{IsSmallFold}
 use Rattle.farkas_check.proofs.BalanceLemmas.{factor_word}
 use Rattle.farkas_check.proofs.totals.coefficient.Goals as goal
 

@@ -5,7 +5,7 @@ use Rattle.fine_stream.proofs.own_book.new_rows.Goals as goal
 
 pub overflow_cast-face : goal.overflow_cast-face
 overflow_cast-face c =
-    let few : length c.faces-face-end.result.now ≤ 5000 = rw c.faces-face-end.ensures.value (faces_few c.args.geometry.now c.faces-face-end.ensures.shape) in
+    let few : length c.faces-face-end.result.now ≤ 4225 = rw c.faces-face-end.ensures.value (faces_few c.args.geometry.now c.faces-face-end.ensures.shape) in
     omega arith
 
 pub loop-face-preserved : goal.loop-face-preserved

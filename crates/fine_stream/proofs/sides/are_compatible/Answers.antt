@@ -1,15 +1,8 @@
-use Rattle.std.proofs.Common.{◌≡◌, Bool, true, false, not, inl, inr, refl}
+use Rattle.std.proofs.Common.{inl, inr, refl}
+use Rattle.ntfe_nums.proofs.Tests.{not_false, not_true}
 use Rattle.fine_stream.proofs.Parts.{second_side, third_side, compatible_sides}
 use Rattle.fine_stream.proofs.Separations.{compatible_back}
 use Rattle.fine_stream.proofs.sides.are_compatible.Goals as goal
-
-not_true : (b : Bool) → not b ≡ true → b ≡ false
-not_true true e = cc
-not_true false e = refl
-
-not_false : (b : Bool) → not b ≡ false → b ≡ true
-not_false true e = refl
-not_false false e = cc
 
 pub returns-then-is_beyond_side-clause-when_true : goal.returns-then-is_beyond_side-clause-when_true
 returns-then-is_beyond_side-clause-when_true c = λ e. compatible_back c.args.chart.now c.args.t.now c.args.u.now (c.is_beyond_side.ensures c.if-is_beyond_side.true)

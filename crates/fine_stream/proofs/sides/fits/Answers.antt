@@ -1,8 +1,8 @@
-use Rattle.std.proofs.Common.{◌≡◌, ◌-◌, ◌++◌, ◌∷◌, [], length, arith, refl, true, false}
+use Rattle.std.proofs.Common.{◌≡◌, ◌-◌, arith, refl, true, false}
 use Rattle.std.proofs.lemmas.List.Elements.{All-contains, Contains-get_or}
 use Rattle.ntfe_model.specs.declared.triangle.Triangle.{Triangle}
 use Rattle.fine_stream.specs.Paths.{AreCompatible}
-use Rattle.fine_stream.proofs.Parts.{part_more, part_next, from_end, from_before, from_all}
+use Rattle.fine_stream.proofs.Parts.{part_more, part_next, from_before, from_all}
 use Rattle.fine_stream.proofs.sides.fits.Goals as goal
 
 pub returns-then-not-unit-clause-when_false : goal.returns-then-not-unit-clause-when_false

@@ -3,7 +3,8 @@ use Rattle.ntfe_nums.specs.Sizes.{AreWithin}
 use Rattle.ntfe_nums.proofs.Ring.{Expression}
 use Rattle.ntfe_nums.proofs.Ring.Expression.{var, minus, times}
 use Rattle.ntfe_nums.proofs.Machine.{AreBounded, AreWithin-four, exact, fits}
-use Rattle.face_chart.proofs.Walk.{same_number, number_same}
+use Rattle.ntfe_nums.proofs.Tests.{same_from_test}
+use Rattle.face_chart.proofs.Walk.{number_same}
 use Rattle.fine_triples.specs.declared.meeting.Shares.{Shares}
 use Rattle.fine_triples.specs.ShareNumbers.{AreSmallShares}
 use Rattle.fine_triples.proofs.meeting.is_met_at.Goals as goal
@@ -52,6 +53,6 @@ returns c =
     let f = fits w64 vs bounds h leftE refl in
     let g = fits w64 vs bounds h rightE refl in
     record {
-      when_true = λ t. sym p ∙ ap (to_z w64) (same_number _ _ t) ∙ q;
+      when_true = λ t. sym p ∙ ap (to_z w64) (same_from_test _ _ t) ∙ q;
       when_false = λ t e. let b : true ≡ false = sym (number_same _ _ (ap (of_z w64) (sym (to_z-of_z f) ∙ p ∙ e ∙ sym q ∙ to_z-of_z g))) ∙ t in cc;
     }

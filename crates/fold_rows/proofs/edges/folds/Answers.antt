@@ -1,9 +1,9 @@
 use Rattle.std.proofs.Common.{◌≡◌, sym, ap, subst, arith, ℕ, ◌<◌, ◌≤◌, List, [], length, get_or}
 use Rattle.std.specs.Prelude.{All, AllPairs}
 use Rattle.ntfe_model.specs.Charts.{spot_numbers}
-use Rattle.ntfe_model.specs.Choices.{AreFolds}
+use Rattle.ntfe_model.specs.Choices.{AreFolds, IsSmallFold}
 use Rattle.ntfe_model.specs.declared.nogood.Fold.{Fold}
-use Rattle.fold_rows.specs.Rows.{AddsFolds, IsSmallFold}
+use Rattle.fold_rows.specs.Rows.{AddsFolds}
 use Rattle.fold_rows.proofs.RowLemmas.{upto_more, upto_end, listed_exactly_regular}
 use Rattle.fold_rows.proofs.edges.folds.Goals as goal
 

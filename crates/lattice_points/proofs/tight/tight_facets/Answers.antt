@@ -17,7 +17,7 @@ loop-i-preserved c =
     elim c.if-is_tight.branch [
       | then-is_tight+in_ok-push w ↦
           ap (λ v. v.items) w.facets-is ∙ w.in_ok-push.ensures.items ∙ ap (λ fs. fs ++ (i + 1) ∷ []) c.loop-i.invariant
-          ∙ passes_next test i (tight_at_next ms x m i true e (sym c.is_tight.ensures ∙ w.if-is_tight.true))
+          ∙ passes_next test i (tight_at_next ms x m i true e (sym c.is_tight.ensures.test ∙ w.if-is_tight.true))
       | else-is_tight w ↦
-          ap (λ v. v.items) w.facets-is ∙ c.loop-i.invariant ∙ fails_next test i (tight_at_next ms x m i false e (sym c.is_tight.ensures ∙ w.if-is_tight.false))
+          ap (λ v. v.items) w.facets-is ∙ c.loop-i.invariant ∙ fails_next test i (tight_at_next ms x m i false e (sym c.is_tight.ensures.test ∙ w.if-is_tight.false))
     ]

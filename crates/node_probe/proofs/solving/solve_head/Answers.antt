@@ -4,7 +4,7 @@ use Rattle.strict_solver.specs.Starts.{AreFoldsOver}
 use Rattle.ntfe_model.specs.Keys.{IsClass}
 use Rattle.node_probe.proofs.KeyLemmas.{left_over}
 use Rattle.node_probe.proofs.RowLemmas.{rows_within}
-use Rattle.node_probe.proofs.Counts.{faces_few}
+use Rattle.ntfe_model.proofs.Counts.{faces_few}
 use Rattle.node_probe.proofs.Refuting.{refutation}
 use Rattle.node_probe.proofs.Solutions.{folds_over, class_of, not_refuted, not_refuted_wide, solved_infeasible, solved_feasible, solved_wide}
 use Rattle.node_probe.proofs.solving.solve_head.Goals as goal

@@ -2,8 +2,8 @@ use Rattle.std.proofs.Math.ListN.{length-set}
 use Rattle.std.proofs.Common.{◌∙◌, ◌≢◌, ◌<◌, length, get_or, set, subst, arith, below_more, get_or-set_same, get_or-set_other}
 use Rattle.ntfe_nums.specs.Vectors.{Vector}
 use Rattle.ntfe_model.specs.Reflexive.{at}
-use Rattle.reflexive_pair.specs.Incidence.{AreTightBits}
-use Rattle.reflexive_pair.proofs.FirstLemmas.{read_at}
+use Rattle.ntfe_model.specs.TightBits.{AreTightBits}
+use Rattle.ntfe_model.proofs.TightLemmas.{read_at}
 use Rattle.reflexive_pair.proofs.incidence.tight_table.Goals as goal
 
 pub loop-i-preserved : goal.loop-i-preserved

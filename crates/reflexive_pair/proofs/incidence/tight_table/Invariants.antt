@@ -1,6 +1,6 @@
 use Rattle.std.proofs.Common.{ℕ, ◌≡◌, ◌<◌, length, get_or}
 use Rattle.ntfe_model.specs.Reflexive.{at}
-use Rattle.reflexive_pair.specs.Incidence.{AreTightBits}
+use Rattle.ntfe_model.specs.TightBits.{AreTightBits}
 use Rattle.reflexive_pair.proofs.incidence.tight_table.Given as goal
 
 abbrev pub invariant-loop-i : goal.invariant-loop-i

@@ -1,53 +1,13 @@
-use Rattle.std.proofs.Common.{ℕ, ℤ, ◌∙◌, ◌^◌, List, [], ◌∷◌, refl, ap, w64, pos, get_or}
+use Rattle.std.proofs.Common.{◌∙◌, ◌^◌, ap, arith, w64}
 use Rattle.ntfe_nums.specs.Vectors.{vector, dot}
-use Rattle.ntfe_nums.specs.Sizes.{AreWithin}
-use Rattle.ntfe_nums.proofs.Ring.{Expression}
-use Rattle.ntfe_nums.proofs.Ring.Expression.{plus, times, var}
-use Rattle.ntfe_nums.proofs.DetLemmas.{dotE, row}
-use Rattle.ntfe_nums.proofs.Machine.{AreBounded, AreWithin-four, exact, fits}
+use Rattle.ntfe_nums.proofs.Machine.{back}
 use Rattle.ntfe_model.proofs.SmallVectors.{small_coordinates}
 use Rattle.reflexive_pair.proofs.planes.height.Goals as goal
 
-abbrev vars : List ℤ → List ℤ → List ℤ
-vars n x = get_or n 0 (pos 0) ∷ get_or n 1 (pos 0) ∷ get_or n 2 (pos 0) ∷ get_or n 3 (pos 0) ∷ get_or x 0 (pos 0) ∷ get_or x 1 (pos 0) ∷ get_or x 2 (pos 0) ∷ get_or x 3 (pos 0) ∷ []
-
-abbrev bounds : List ℕ
-bounds = let m = 2 ^ 36 in m ∷ m ∷ m ∷ m ∷ 1023 ∷ 1023 ∷ 1023 ∷ 1023 ∷ []
-
-bounded : (n x : List ℤ) → AreWithin (2 ^ 36) n → AreWithin 1023 x → AreBounded (vars n x) bounds
-bounded n x a b =
-    let p = AreWithin-four (2 ^ 36) n a in
-    let q = AreWithin-four 1023 x b in
-    (p 0, (p 1, (p 2, (p 3, (q 0, (q 1, (q 2, (q 3, tt))))))))
-
-abbrev part : ℕ → ℕ → Expression
-part i j = times (var i) (var j)
-
-abbrev sum2 : Expression
-sum2 = plus (part 0 4) (part 1 5)
-
-pub overflow_mul-result : goal.overflow_mul-result
-overflow_mul-result c = fits w64 (vars c.args.n.now c.coordinates-x.result.now) bounds (bounded _ _ c.requires.large (small_coordinates c.args.x.now c.coordinates-x.result.now c.requires.small c.coordinates-x.ensures.list)) (part 0 4) refl
-
-pub overflow_mul-result-2 : goal.overflow_mul-result-2
-overflow_mul-result-2 c = fits w64 (vars c.args.n.now c.coordinates-x.result.now) bounds (bounded _ _ c.requires.large (small_coordinates c.args.x.now c.coordinates-x.result.now c.requires.small c.coordinates-x.ensures.list)) (part 1 5) refl
-
-pub overflow_add-result : goal.overflow_add-result
-overflow_add-result c = fits w64 (vars c.args.n.now c.coordinates-x.result.now) bounds (bounded _ _ c.requires.large (small_coordinates c.args.x.now c.coordinates-x.result.now c.requires.small c.coordinates-x.ensures.list)) (sum2) refl
-
-pub overflow_mul-result-3 : goal.overflow_mul-result-3
-overflow_mul-result-3 c = fits w64 (vars c.args.n.now c.coordinates-x.result.now) bounds (bounded _ _ c.requires.large (small_coordinates c.args.x.now c.coordinates-x.result.now c.requires.small c.coordinates-x.ensures.list)) (part 2 6) refl
-
-pub overflow_add-result-2 : goal.overflow_add-result-2
-overflow_add-result-2 c = fits w64 (vars c.args.n.now c.coordinates-x.result.now) bounds (bounded _ _ c.requires.large (small_coordinates c.args.x.now c.coordinates-x.result.now c.requires.small c.coordinates-x.ensures.list)) (plus sum2 (part 2 6)) refl
-
-pub overflow_mul-result-4 : goal.overflow_mul-result-4
-overflow_mul-result-4 c = fits w64 (vars c.args.n.now c.coordinates-x.result.now) bounds (bounded _ _ c.requires.large (small_coordinates c.args.x.now c.coordinates-x.result.now c.requires.small c.coordinates-x.ensures.list)) (part 3 7) refl
-
-pub overflow_add-result-3 : goal.overflow_add-result-3
-overflow_add-result-3 c = fits w64 (vars c.args.n.now c.coordinates-x.result.now) bounds (bounded _ _ c.requires.large (small_coordinates c.args.x.now c.coordinates-x.result.now c.requires.small c.coordinates-x.ensures.list)) (dotE (row 0) (row 4)) refl
+pub short_product-requires-clause-small : goal.short_product-requires-clause-small
+short_product-requires-clause-small c = small_coordinates c.args.x.now c.coordinates.result.now c.requires.small c.coordinates.ensures.list
 
 pub returns : goal.returns
 returns c =
-    exact w64 (vars c.args.n.now c.coordinates-x.result.now) bounds (bounded _ _ c.requires.large (small_coordinates c.args.x.now c.coordinates-x.result.now c.requires.small c.coordinates-x.ensures.list)) (dotE (row 0) (row 4)) refl
-    ∙ ap (dot (vector c.args.n.now)) c.coordinates-x.ensures.value
+    back w64 c.short_product.result (2 ^ 48) c.short_product.ensures.size (omega arith)
+    ∙ c.short_product.ensures.value ∙ ap (dot (vector c.args.n.now)) c.coordinates.ensures.value

@@ -1,38 +1,8 @@
-use Rattle.std.proofs.Common.{ℕ, ℤ, ◌≡◌, ◌^◌, ◌∙◌, List, [], ◌∷◌, refl, arith, w64, pos, get_or, to_z, of_z, neg_ℤ}
-use Rattle.ntfe_nums.specs.Vectors.{Vector, numbers, difference, det3, cofactors}
-use Rattle.ntfe_nums.specs.Sizes.{AreWithin}
-use Rattle.ntfe_nums.proofs.Ring.{ring}
-use Rattle.ntfe_nums.proofs.Ring.Expression.{var, neg}
-use Rattle.ntfe_nums.proofs.DetLemmas.{det3E}
-use Rattle.ntfe_nums.proofs.Machine.{back}
+use Rattle.std.proofs.Common.{◌∙◌}
+use Rattle.ntfe_nums.specs.Vectors.{vector, cofactors}
 use Rattle.reflexive_pair.proofs.planes.normal_of.Goals as goal
 
--- two columns exchanged
-swapped : (a b c d e f g h i : ℤ) → det3 b a c e d f h g i ≡ neg_ℤ (det3 a b c d e f g h i)
-swapped a b c d e f g h i =
-    ring (a ∷ b ∷ c ∷ d ∷ e ∷ f ∷ g ∷ h ∷ i ∷ [])
-    (det3E (var 1) (var 0) (var 2) (var 4) (var 3) (var 5) (var 7) (var 6) (var 8))
-    (neg (det3E (var 0) (var 1) (var 2) (var 3) (var 4) (var 5) (var 6) (var 7) (var 8))) refl
-
-word : (z : ℤ) → AreWithin (2 ^ 36) (z ∷ []) → to_z w64 (of_z w64 z) ≡ z
-word z h = back w64 z (2 ^ 36) h.0 (omega arith)
-
--- the determinant of three columns of the differences
-module _ (u v w : List ℤ) (x y z : Vector) (e : u ≡ numbers x) (f : v ≡ numbers y) (g : w ≡ numbers z) (r : ℤ) (large : AreWithin (2 ^ 36) (r ∷ [])) (i j k : ℕ) where
-  entry_is : r ≡ det3 (get_or u i (pos 0)) (get_or u j (pos 0)) (get_or u k (pos 0)) (get_or v i (pos 0)) (get_or v j (pos 0)) (get_or v k (pos 0)) (get_or w i (pos 0)) (get_or w j (pos 0)) (get_or w k (pos 0))
-      → to_z w64 (of_z w64 r) ≡ det3 (get_or (numbers x) i (pos 0)) (get_or (numbers x) j (pos 0)) (get_or (numbers x) k (pos 0)) (get_or (numbers y) i (pos 0)) (get_or (numbers y) j (pos 0)) (get_or (numbers y) k (pos 0)) (get_or (numbers z) i (pos 0)) (get_or (numbers z) j (pos 0)) (get_or (numbers z) k (pos 0))
-  entry_is h = word r large ∙ h
-      ∙ (λ t. det3 (get_or (e t) i (pos 0)) (get_or (e t) j (pos 0)) (get_or (e t) k (pos 0)) (get_or (f t) i (pos 0)) (get_or (f t) j (pos 0)) (get_or (f t) k (pos 0)) (get_or (g t) i (pos 0)) (get_or (g t) j (pos 0)) (get_or (g t) k (pos 0)))
-
 pub returns-clause-value : goal.returns-clause-value
-unfolding cofactors
 returns-clause-value c =
-    let x = difference c.args.b.now c.args.a.now in
-    let y = difference c.args.c.now c.args.a.now in
-    let z = difference c.args.d.now c.args.a.now in
-    let part = entry_is c.edge-u.result c.edge-v.result c.edge-w.result x y z c.edge-u.ensures.value c.edge-v.ensures.value c.edge-w.ensures.value in
-    let p1 = part c.minor-first.result c.minor-first.ensures.size 2 1 3 c.minor-first.ensures.value ∙ swapped x.x2 x.x3 x.x4 y.x2 y.x3 y.x4 z.x2 z.x3 z.x4 in
-    let p2 = part c.minor-second.result c.minor-second.ensures.size 0 2 3 c.minor-second.ensures.value in
-    let p3 = part c.minor-third.result c.minor-third.ensures.size 1 0 3 c.minor-third.ensures.value ∙ swapped x.x1 x.x2 x.x4 y.x1 y.x2 y.x4 z.x1 z.x2 z.x4 in
-    let p4 = part c.minor-fourth.result c.minor-fourth.ensures.size 0 1 2 c.minor-fourth.ensures.value in
-    λ t. record { x1 = p1 t; x2 = p2 t; x3 = p3 t; x4 = p4 t }
+    c.short_normal.ensures.value
+    ∙ (λ t. cofactors (vector (c.edge-u.ensures.value t)) (vector (c.edge-v.ensures.value t)) (vector (c.edge-w.ensures.value t)))

@@ -2,7 +2,8 @@ use Rattle.std.proofs.Common.{◌<◌, length, subst, arith, below_more}
 use Rattle.ntfe_nums.specs.Vectors.{Vector}
 use Rattle.ntfe_model.specs.Reflexive.{at}
 use Rattle.reflexive_pair.specs.Firsts.{IsHighBelow, IsFirstLow}
-use Rattle.reflexive_pair.proofs.FirstLemmas.{read_at, no_low_product, low_least}
+use Rattle.ntfe_model.proofs.TightLemmas.{read_at}
+use Rattle.reflexive_pair.proofs.FirstLemmas.{no_low_product, low_least}
 use Rattle.reflexive_pair.proofs.products.first_low.Goals as goal
 
 pub returns-in-Some : goal.returns-in-Some

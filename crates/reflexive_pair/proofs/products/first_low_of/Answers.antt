@@ -1,7 +1,7 @@
 use Rattle.std.proofs.Common.{◌<◌, length, subst, arith, negsuc, ◌≤ℤ◌, below_more}
 use Rattle.ntfe_nums.specs.Vectors.{Vector, dot}
 use Rattle.ntfe_model.specs.Reflexive.{at}
-use Rattle.reflexive_pair.proofs.FirstLemmas.{read_at}
+use Rattle.ntfe_model.proofs.TightLemmas.{read_at}
 use Rattle.reflexive_pair.proofs.products.first_low_of.Goals as goal
 
 pub loop-j-preserved : goal.loop-j-preserved

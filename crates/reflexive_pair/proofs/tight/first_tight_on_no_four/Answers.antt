@@ -1,7 +1,8 @@
 use Rattle.std.proofs.Common.{◌<◌, length, subst, arith, below_more}
 use Rattle.ntfe_nums.specs.Vectors.{Vector}
 use Rattle.ntfe_model.specs.Reflexive.{at, IsTightOnFour}
-use Rattle.reflexive_pair.proofs.FirstLemmas.{read_at, all_tight}
+use Rattle.ntfe_model.proofs.TightLemmas.{read_at}
+use Rattle.reflexive_pair.proofs.FirstLemmas.{all_tight}
 use Rattle.reflexive_pair.proofs.tight.first_tight_on_no_four.Goals as goal
 
 pub loop-i-preserved : goal.loop-i-preserved

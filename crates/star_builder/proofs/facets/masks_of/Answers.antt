@@ -1,6 +1,7 @@
 use Rattle.std.proofs.Common.{ℕ, List, ◌+◌, length, sym, subst}
 use Rattle.ntfe_nums.specs.Vectors.{Vector}
-use Rattle.star_builder.specs.Facets.{AreMasks, AreTightBits}
+use Rattle.ntfe_model.specs.TightBits.{AreTightBits}
+use Rattle.star_builder.specs.Facets.{AreMasks}
 use Rattle.star_builder.proofs.FacetBits.{masks_more, place_here}
 use Rattle.star_builder.proofs.facets.masks_of.Goals as goal
 

@@ -2,10 +2,10 @@ use Rattle.std.proofs.Common.{◌≡◌, ◌≢◌, ◌∙◌, sym, ap, subst, a
 use Rattle.std.specs.Prelude.{All, Any}
 use Rattle.std.proofs.lemmas.List.{take_all}
 use Rattle.std.proofs.lemmas.List.Elements.{All-same, All-more}
-use Rattle.star_builder.specs.declared.flat.Flat.{Flat}
-use Rattle.star_builder.specs.Flats.{flat_of, area_of_flats}
+use Rattle.ntfe_model.proofs.Lists.{any_here}
+use Rattle.ntfe_model.specs.declared.flat.Flat.{Flat}
+use Rattle.ntfe_model.specs.Flats.{flat_of, area_of_flats}
 use Rattle.ntfe_model.specs.Points.{place_of_point}
-use Rattle.star_builder.proofs.OutlineLemmas.{any_here}
 use Rattle.star_builder.proofs.span.has_second.Goals as goal
 
 pub loop-number-preserved : goal.loop-number-preserved

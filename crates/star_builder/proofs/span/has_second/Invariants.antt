@@ -1,6 +1,6 @@
 use Rattle.std.proofs.Common.{◌≡◌, take, pos}
 use Rattle.std.specs.Prelude.{All}
-use Rattle.star_builder.specs.Flats.{flat_of, area_of_flats}
+use Rattle.ntfe_model.specs.Flats.{flat_of, area_of_flats}
 use Rattle.ntfe_model.specs.Points.{place_of_point}
 use Rattle.star_builder.proofs.span.has_second.Given as goal
 

@@ -1,10 +1,11 @@
 use Rattle.std.proofs.Common.{◌≡◌, ◌≢◌, ◌∙◌, sym, ap, arith, take, pos, ℕ}
 use Rattle.std.proofs.lemmas.List.{take_all}
 use Rattle.std.proofs.lemmas.List.Elements.{All-same, All-more}
-use Rattle.star_builder.specs.Flats.{flat_of, area_of_flats}
+use Rattle.ntfe_nums.proofs.Signs.{bits_of_zero}
+use Rattle.ntfe_model.proofs.Lists.{any_here}
+use Rattle.ntfe_model.specs.Flats.{flat_of, area_of_flats}
 use Rattle.ntfe_model.specs.Points.{place_of_point}
-use Rattle.star_builder.proofs.FlatLemmas.{zero_from_bits, bits_of_zero}
-use Rattle.star_builder.proofs.OutlineLemmas.{any_here}
+use Rattle.ntfe_model.proofs.FlatLemmas.{zero_from_bits}
 use Rattle.star_builder.proofs.span.has_third.Goals as goal
 
 pub loop-number-preserved : goal.loop-number-preserved

@@ -1,6 +1,6 @@
 use Rattle.std.proofs.Common.{◌<◌, ◌∙◌, ap, arith, get_or, length}
 use Rattle.std.proofs.lemmas.List.Elements.{Contains-get_or}
-use Rattle.star_builder.specs.Flats.{flat_of}
+use Rattle.ntfe_model.specs.Flats.{flat_of}
 use Rattle.star_builder.proofs.SpanLemmas.{spans_decided}
 use Rattle.star_builder.proofs.span.spans.Goals as goal
 

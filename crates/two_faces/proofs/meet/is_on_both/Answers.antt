@@ -4,6 +4,6 @@ use Rattle.two_faces.proofs.meet.is_on_both.Goals as goal
 
 pub returns-then-is_tight-clause-when_true : goal.returns-then-is_tight-clause-when_true
 returns-then-is_tight-clause-when_true c = λ t. record {
-  first = tight_from c.args.m.now c.args.x.now (sym c.is_tight.ensures ∙ c.if-is_tight.true);
-  second = tight_from c.args.n.now c.args.x.now (sym c.is_tight-then-is_tight.ensures ∙ t);
+  first = tight_from c.args.m.now c.args.x.now (sym c.is_tight.ensures.test ∙ c.if-is_tight.true);
+  second = tight_from c.args.n.now c.args.x.now (sym c.is_tight-then-is_tight.ensures.test ∙ t);
 }

@@ -1,7 +1,7 @@
 use Rattle.std.proofs.Common.{◌∙◌, sym, ap}
 use Rattle.ntfe_nums.specs.Vectors.{sign}
 use Rattle.ntfe_model.specs.Charts.{turn}
-use Rattle.face_chart.proofs.FlatLemmas.{positive_from_test, not_positive_from_test, negative_from_test, not_negative_from_test, zero_between}
+use Rattle.ntfe_model.proofs.FlatLemmas.{positive_from_test, not_positive_from_test, negative_from_test, not_negative_from_test, zero_between}
 use Rattle.ntfe_model.proofs.PlaneNumbers.{sign_positive, sign_negative}
 use Rattle.face_chart.proofs.charts.Chart.orient.Goals as goal
 

@@ -1,18 +1,12 @@
-use Rattle.std.proofs.Common.{ℕ, ℤ, pos, ◌<ℤ◌, ◌≤ℤ◌, ◌==◌, Bool, true, false, ◌≡◌, ◌≤◌, sym, ap, subst, ◌∙◌, arith, unsigned_abs, w64, of_z}
+use Rattle.std.proofs.Common.{ℤ, pos, ◌<ℤ◌, ◌≤ℤ◌, Bool, true, false, ◌≡◌, ◌≤◌, sym, ap, subst, ◌∙◌, arith, unsigned_abs, w64, of_z}
 use Rattle.std.proofs.lemmas.Int.{ints}
-use Rattle.std.proofs.lemmas.Bool.Decides.{nat_tests}
+use Rattle.ntfe_nums.proofs.Tests.{same_from_test, test_from_same}
 use Rattle.ntfe_model.specs.Charts.{Patch}
 use Rattle.face_chart.specs.Units.{IsUnitArea}
-use Rattle.face_chart.proofs.FlatLemmas.{positive_from_test, not_positive_from_test}
+use Rattle.ntfe_model.proofs.FlatLemmas.{positive_from_test, not_positive_from_test}
 use Rattle.ntfe_model.proofs.UnitTriples.{area_of, unit_area}
 use Rattle.face_chart.proofs.UnitLemmas.{same_bits}
 use Rattle.face_chart.proofs.charts.Chart.unit.Goals as goal
-
-yes_same : (m n : ℕ) → (m == n) ≡ true → m ≡ n
-yes_same m n e = grind (arith, nat_tests)
-
-same_yes : (m n : ℕ) → m ≡ n → (m == n) ≡ true
-same_yes m n e = grind (arith, nat_tests)
 
 wide : (z : ℤ) → unsigned_abs z ≤ 16777216 → unsigned_abs z ≤ 1099511627776
 wide z s = omega (arith, s)
@@ -35,9 +29,9 @@ returns-then-area-gt0 c =
     let inv = subst P c.self.view_is c.self.invariant.units in
     let e = c.area-area.ensures.value ∙ (λ i. area_of (c.self.view_is i) c.args.a c.args.b c.args.c) in
     let l = positive_from_test z c.area-area.ensures.size c.if-area-gt0.true in (
-      λ t. (let same = same_bits z u (wide z c.area-area.ensures.size) (wide u inv.size) (yes_same _ _ t) in
+      λ t. (let same = same_bits z u (wide z c.area-area.ensures.size) (wide u inv.size) (same_from_test _ _ t) in
           inv.units c.args.a c.args.b c.args.c (c.requires.a, c.requires.b, c.requires.c) (sym e ∙ same) (above z u same l)),
-      λ v. same_yes _ _ (ap (of_z w64) (e ∙ inv.of_units c.args.a c.args.b c.args.c v)),
+      λ v. test_from_same _ _ (ap (of_z w64) (e ∙ inv.of_units c.args.a c.args.b c.args.c v)),
     )
 
 pub returns-else-area-gt0 : goal.returns-else-area-gt0

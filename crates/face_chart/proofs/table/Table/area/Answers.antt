@@ -1,6 +1,6 @@
 use Rattle.std.proofs.Common.{arith, ◌≤◌, ◌≡◌, sym, subst, ◌∙◌, w64, to_z, of_z, ℤ, unsigned_abs}
 use Rattle.ntfe_nums.proofs.Machine.{back}
-use Rattle.face_chart.specs.Flats.{area_of_flats}
+use Rattle.ntfe_model.specs.Flats.{area_of_flats}
 use Rattle.face_chart.proofs.PatchLemmas.{known_at, flat_length, flat_read, small_flat_read}
 use Rattle.face_chart.proofs.table.Table.area.Goals as goal
 

@@ -1,7 +1,7 @@
 use Rattle.std.proofs.Common.{◌∙◌, sym, ap, arith, map, take, [], ◌∷◌, ◌++◌}
 use Rattle.std.proofs.lemmas.List.{map_more, take_all}
 use Rattle.ntfe_model.specs.Charts.{axes}
-use Rattle.face_chart.specs.Flats.{flat_of}
+use Rattle.ntfe_model.specs.Flats.{flat_of}
 use Rattle.face_chart.specs.Tables.{patch}
 use Rattle.face_chart.proofs.table.Table.new.Goals as goal
 

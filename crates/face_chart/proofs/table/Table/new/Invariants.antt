@@ -1,5 +1,5 @@
 use Rattle.std.proofs.Common.{◌≡◌, take, map}
-use Rattle.face_chart.specs.Flats.{flat_of}
+use Rattle.ntfe_model.specs.Flats.{flat_of}
 use Rattle.face_chart.proofs.table.Table.new.Given as goal
 
 abbrev pub invariant-loop-place : goal.invariant-loop-place

@@ -1,6 +1,6 @@
 use Rattle.std.proofs.Common.{◌≤◌, ◌∙◌, ap, arith, length}
 use Rattle.std.proofs.Math.Facts.{Fits-below}
-use Rattle.node_probe.proofs.Counts.{faces_few}
+use Rattle.ntfe_model.proofs.Counts.{faces_few}
 use Rattle.node_probe.proofs.ShelfLemmas.{patches_more}
 use Rattle.node_probe.proofs.shelf.Shelf.new.Goals as goal
 

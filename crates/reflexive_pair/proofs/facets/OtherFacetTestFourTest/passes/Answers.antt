@@ -1,7 +1,8 @@
 use Rattle.std.proofs.Common.{◌<◌, length, arith}
 use Rattle.ntfe_nums.specs.Vectors.{AreAffinelyIndependent}
 use Rattle.ntfe_model.specs.Reflexive.{IsOnOneSide}
-use Rattle.reflexive_pair.proofs.FirstLemmas.{read_at, same_four}
+use Rattle.ntfe_model.proofs.TightLemmas.{read_at}
+use Rattle.reflexive_pair.proofs.FirstLemmas.{same_four}
 use Rattle.reflexive_pair.proofs.facets.OtherFacetTestFourTest.passes.Goals as goal
 
 pub returns-clause-when_true : goal.returns-clause-when_true

@@ -1,6 +1,6 @@
 use Rattle.std.proofs.Common.{◌∙◌, sym}
-use Rattle.star_builder.specs.Flats.{area_of_flats, flat_of}
-use Rattle.star_builder.proofs.FlatLemmas.{word_back}
+use Rattle.ntfe_model.specs.Flats.{area_of_flats, flat_of}
+use Rattle.ntfe_model.proofs.FlatLemmas.{word_back}
 use Rattle.star_builder.proofs.OutlineLemmas.{known_at, place_at}
 use Rattle.star_builder.proofs.outline.Outline.area.Goals as goal
 

@@ -1,7 +1,7 @@
 use Rattle.std.proofs.Common.{◌∙◌, ap, sym, arith}
 use Rattle.ntfe_nums.specs.Vectors.{sign}
 use Rattle.ntfe_model.proofs.PlaneNumbers.{sign_positive}
-use Rattle.star_builder.proofs.FlatLemmas.{positive_from_test}
+use Rattle.ntfe_model.proofs.FlatLemmas.{positive_from_test}
 use Rattle.star_builder.proofs.outline.Outline.is_left.Goals as goal
 
 pub returns-clause-when_true : goal.returns-clause-when_true

@@ -1,6 +1,6 @@
 use Rattle.std.proofs.Common.{arith}
 use Rattle.ntfe_model.specs.Points.{place_of_point}
-use Rattle.star_builder.proofs.FacetBits.{facet_from_bits, none_from_bits}
+use Rattle.ntfe_model.proofs.TightLemmas.{facet_from_bits, none_from_bits}
 use Rattle.star_builder.proofs.search.Search.common_facet.Goals as goal
 
 pub returns-then-common-eq0 : goal.returns-then-common-eq0
