@@ -5,6 +5,7 @@ mod above;
 mod closing;
 mod extendable;
 mod facets;
+mod facing;
 mod four;
 mod frame;
 mod gather;
@@ -23,6 +24,7 @@ mod whole;
 
 pub use closing::star_closes;
 pub use extendable::extendable_is_induced;
+pub use facing::facets_meet;
 pub use lexicographic::induced_is_extendable;
 pub use origin::{origin_height, origin_lies_low};
 pub use restricted::restriction_is_fine;
