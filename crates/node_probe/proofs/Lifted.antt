@@ -11,7 +11,7 @@ use Rattle.ntfe_model.specs.Solver.{fold_row, IsInfeasible}
 use Rattle.ntfe_model.specs.Keys.{IsRefutedAt}
 use Rattle.ntfe_model.specs.declared.nogood.Fold.{Fold}
 use Rattle.strict_solver.specs.Starts.{AreFoldsOver}
-use Rattle.strict_solver.proofs.Forms.{combination}
+use Rattle.strict_solver.specs.Equations.{combination}
 use Rattle.strict_solver.proofs.Infeasible.{weighted, infeasible-cancels}
 use Rattle.strict_solver.proofs.Meaning.{row_value}
 use Rattle.strict_solver.proofs.Outcome.{are_rows}

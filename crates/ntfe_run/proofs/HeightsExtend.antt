@@ -16,8 +16,8 @@ use Rattle.node_probe.proofs.Counts.{fold_known}
 use Rattle.node_probe.proofs.Heads.{head_all}
 use Rattle.node_probe.proofs.Extending.{folds_extend}
 use Rattle.strict_solver.specs.Starts.{IsFoldOver}
+use Rattle.strict_solver.specs.Equations.{combination}
 use Rattle.strict_solver.proofs.Feasible.{feasible-rows}
-use Rattle.strict_solver.proofs.Forms.{combination}
 use Rattle.strict_solver.proofs.Meaning.{row_value}
 use Rattle.strict_solver.proofs.Outcome.{are_rows}
 

@@ -4,7 +4,8 @@
 --     no_return                          after one move or more another set of variables is basic than at first
 use Rattle.std.proofs.Common.{◌≡◌, ℕ, ◌<◌, ◌≤◌, ◌⊎◌, inl, inr, refl, sym, ap, ◌∙◌, subst, arith, ℤ, List, [], ◌∷◌, length, get_or, Some, None, Option}
 use Rattle.ntfe_model.specs.Solver.{Line, IsPivot}
-use Rattle.strict_solver.proofs.Pivots.{IsTable, Holds, pivot-table, pivot-holds, pivot-held, pivot-gone, pivot-kept, pivot-basic, pivot-left, pivot-leaving, pivot-entering}
+use Rattle.strict_solver.specs.Equations.{Holds}
+use Rattle.strict_solver.proofs.Pivots.{IsTable, pivot-table, pivot-holds, pivot-held, pivot-gone, pivot-kept, pivot-basic, pivot-left, pivot-leaving, pivot-entering}
 use Rattle.strict_solver.proofs.Moves.{IsMove, first_slack-found, entering-found, IsGone}
 use Rattle.strict_solver.proofs.Values.{bland}
 

@@ -4,7 +4,7 @@ use Rattle.std.proofs.lemmas.Int.{ints}
 use Rattle.std.proofs.lemmas.List.{length-replicate, get_or_past}
 use Rattle.ntfe_model.specs.Solver.{IsInfeasible}
 use Rattle.ntfe_nums.proofs.Ring.{product_zero, product_one}
-use Rattle.strict_solver.proofs.Forms.{combination}
+use Rattle.strict_solver.specs.Equations.{combination}
 use Rattle.strict_solver.proofs.Runs.{AreRows}
 use Rattle.strict_solver.proofs.Infeasible.{weighted, infeasible-cancels}
 

@@ -4,8 +4,9 @@ use Rattle.std.proofs.lemmas.Int.{ints}
 use Rattle.ntfe_model.specs.Solver.{Line, start_line, start_table, first_negative, last_scale, IsScaled, IsFeasible}
 use Rattle.ntfe_nums.proofs.Ring.{ring, product_zero, zero_product}
 use Rattle.ntfe_nums.proofs.Ring.Expression.{var, num, plus, minus, times}
-use Rattle.strict_solver.proofs.Forms.{combination, back, positive_some}
-use Rattle.strict_solver.proofs.Pivots.{IsTable, Holds, in_table, run-table, run-length, run-held}
+use Rattle.strict_solver.specs.Equations.{combination, Holds}
+use Rattle.strict_solver.proofs.Forms.{back, positive_some}
+use Rattle.strict_solver.proofs.Pivots.{IsTable, in_table, run-table, run-length, run-held}
 use Rattle.strict_solver.proofs.Moves.{no_first_slack, moving-feasible, move_of-feasible, int_lt-not_zero}
 use Rattle.strict_solver.proofs.Values.{common, values_by, common-positive, length-values, value-none, value-some, values-hold, product_at_least, factor_at_least}
 use Rattle.strict_solver.proofs.Runs.{AreRows, start_lines, start-at, start-length, start-is_table}

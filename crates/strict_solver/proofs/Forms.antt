@@ -9,12 +9,7 @@ use Rattle.ntfe_nums.specs.Vectors.{sign}
 use Rattle.ntfe_model.specs.Solver.{Line, coefficient_at, solved_for, with_put_in, IsReduced}
 use Rattle.ntfe_nums.proofs.Ring.{ring, product_zero}
 use Rattle.ntfe_nums.proofs.Ring.Expression.{var, num, plus, minus, times, neg}
-
--- the sum of the coefficients times the values
-abbrev pub combination : List ℤ → List ℤ → ℤ
-combination [] vs = pos 0
-combination (e ∷ es) [] = pos 0
-combination (e ∷ es) (v ∷ vs) = e *ℤ v +ℤ combination es vs
+use Rattle.strict_solver.specs.Equations.{combination, LineHolds}
 
 pub combination-scaled : (k : ℤ) (es vs : List ℤ) → combination (map (λ e. k *ℤ e) es) vs ≡ k *ℤ combination es vs
 combination-scaled k [] vs = sym (product_zero k)
@@ -96,9 +91,6 @@ sign_some (pos (suc n)) h e = cc
 sign_some (negsuc n) h e = cc
 
 -- ---- rows
-abbrev pub LineHolds : ℤ → List ℤ → ℕ → Line → Type 0
-LineHolds one vs z r = r.d *ℤ get_or vs z (pos 0) ≡ r.c *ℤ one +ℤ combination r.coefficients vs
-
 pub combination-solved_for : (vs : List ℤ) (r : Line) (x y : ℕ) → x ≢ y → x < length vs → y < length vs → length r.coefficients ≡ length vs → coefficient_at r x ≡ pos 0
     → combination (solved_for r x y).coefficients vs
     ≡ neg_ℤ (sign (coefficient_at r y) *ℤ combination r.coefficients vs) +ℤ (sign (coefficient_at r y) *ℤ coefficient_at r y) *ℤ get_or vs y (pos 0) +ℤ (sign (coefficient_at r y) *ℤ r.d) *ℤ get_or vs x (pos 0)

@@ -6,8 +6,8 @@ use Rattle.std.proofs.lemmas.Bool.Decides.{nat_tests}
 use Rattle.ntfe_model.specs.Solver.{Line, coefficient_at, start_table, first_negative, first_entering, multiplier_at, IsInfeasible}
 use Rattle.ntfe_nums.proofs.Ring.{ring, product_zero, zero_product, one_product}
 use Rattle.ntfe_nums.proofs.Ring.Expression.{var, num, plus, times, neg}
-use Rattle.strict_solver.proofs.Forms.{combination, LineHolds}
-use Rattle.strict_solver.proofs.Pivots.{IsTable, Holds, get_here, run-table, run-length, run-holds}
+use Rattle.strict_solver.specs.Equations.{combination, LineHolds, Holds}
+use Rattle.strict_solver.proofs.Pivots.{IsTable, get_here, run-table, run-length, run-holds}
 use Rattle.strict_solver.proofs.Moves.{first_slack-found, no_entering, moving-infeasible, move_of-infeasible, int_lt-not_positive}
 use Rattle.strict_solver.proofs.Bland.{IsLoaded}
 use Rattle.strict_solver.proofs.Runs.{AreRows, start-get, start-length, start-is_table, start-loading, run-loading, end-loaded}

@@ -38,3 +38,14 @@ pub mod Outcome
 pub mod Meaning
 pub mod Uses
 pub mod Determined
+pub mod Wider
+pub mod Following
+pub mod Chosen
+pub mod GoingOn
+pub mod Directions
+pub mod Deciding
+pub mod Unique
+pub mod Joining
+pub mod Going
+pub mod LineOf
+pub mod Path

@@ -17,8 +17,8 @@ use Rattle.strict_solver.specs.Answers.{Answer}
 use Rattle.strict_solver.specs.Answers.Answer.{unsolved, feasible, infeasible}
 use Rattle.strict_solver.specs.Starts.{IsFoldOver, AreFoldsOver}
 use Rattle.strict_solver.specs.Solving.{HasSolved, HasMeaning, AreMultipliers, weighted_sum}
+use Rattle.strict_solver.specs.Equations.{combination}
 use Rattle.strict_solver.proofs.Elimination.{at_place}
-use Rattle.strict_solver.proofs.Forms.{combination}
 use Rattle.strict_solver.proofs.Outcome.{are_rows}
 use Rattle.strict_solver.proofs.Feasible.{feasible-rows}
 use Rattle.strict_solver.proofs.Infeasible.{weighted}

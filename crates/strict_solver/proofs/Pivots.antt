@@ -10,8 +10,9 @@ use Rattle.std.proofs.lemmas.Slice.Zip.{length-zip, get_or-zip}
 use Rattle.ntfe_nums.specs.Vectors.{sign}
 use Rattle.ntfe_model.specs.Solver.{Line, Table, coefficient_at, solved_for, with_put_in, IsReduced, IsNextLine, IsPivot, IsRun}
 use Rattle.ntfe_nums.proofs.Ring.{product_zero, zero_product}
+use Rattle.strict_solver.specs.Equations.{LineHolds, Holds}
 use Rattle.strict_solver.proofs.Moves.{IsGone}
-use Rattle.strict_solver.proofs.Forms.{LineHolds, length_mapped, zero_factor, reduced_parts, solved_for-holds, reduced-holds, with_put_in-holds, pos_some}
+use Rattle.strict_solver.proofs.Forms.{length_mapped, zero_factor, reduced_parts, solved_for-holds, reduced-holds, with_put_in-holds, pos_some}
 
 pub record IsLineOf (s : List (Option Line)) (r : Line) : Type 0 where
   pub count : length r.coefficients ≡ length s
@@ -20,9 +21,6 @@ pub record IsLineOf (s : List (Option Line)) (r : Line) : Type 0 where
 
 abbrev pub IsTable : List (Option Line) → Type 0
 IsTable s = (z : ℕ) (r : Line) → get_or s z None ≡ Some r → IsLineOf s r
-
-abbrev pub Holds : ℤ → List ℤ → List (Option Line) → Type 0
-Holds one vs s = (z : ℕ) (r : Line) → get_or s z None ≡ Some r → LineHolds one vs z r
 
 pub in_table : (s : List (Option Line)) (z : ℕ) (r : Line) → get_or s z None ≡ Some r → z < length s
 in_table [] z r e = cc

@@ -8,8 +8,8 @@ use borrow.Author.Differences.{product_is}
 use Rattle.ntfe_model.specs.Solver.{Line}
 use Rattle.ntfe_nums.proofs.Ring.{ring, product_zero, zero_product, one_product}
 use Rattle.ntfe_nums.proofs.Ring.Expression.{var, num, plus, times, neg}
-use Rattle.strict_solver.proofs.Forms.{combination}
-use Rattle.strict_solver.proofs.Pivots.{IsTable, Holds}
+use Rattle.strict_solver.specs.Equations.{combination, Holds}
+use Rattle.strict_solver.proofs.Pivots.{IsTable}
 use Rattle.strict_solver.proofs.Moves.{IsMove, IsFirstSlack, first_slack-found, IsFirstEntering, entering-found, IsGone, int_lt-zero, int_lt-not_zero}
 
 -- ---- signs of products

@@ -8,3 +8,5 @@ pub mod Answers
 pub mod Outcomes
 pub mod Solving
 pub mod Lengths
+pub mod Equations
+pub mod Continuing

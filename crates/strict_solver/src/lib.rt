@@ -2,7 +2,7 @@
 #![tactic(auto)]
 
 mod grid;
-mod law;
+mod laws;
 mod place;
 mod row;
 mod run;
@@ -13,6 +13,6 @@ mod tableau;
 #[cfg(test)]
 mod tests;
 
-pub use law::{moving_is_short, run_is_short};
+pub use laws::{goes_on, moving_is_short, run_is_short};
 pub use run::Solved;
 pub use tableau::Tableau;

@@ -1,5 +1,6 @@
-//! How many pivots the stated solver makes.
-ghost use Rattle.std.specs.Prelude.{ℕ, ◌+◌, ◌^◌, ◌<◌, ℤ, List, length};
+//! How many pivots the stated solver makes, and how it goes on when one more row comes.
+ghost use Rattle.std.specs.Prelude.{ℕ, ◌+◌, ◌^◌, ◌<◌, ℤ, List, [], ◌∷◌, ◌++◌, length};
+ghost use Rattle.strict_solver.specs.Continuing.{IsOneRowMore};
 ghost use Rattle.ntfe_model.specs.Solver.{Table, start_table, IsRun};
 ghost use Rattle.strict_solver.specs.Lengths.{AreRowsOver, IsMovingRun};
 
@@ -14,4 +15,10 @@ pub fn moving_is_short()
 /// height is loaded once at most. The function does nothing: its contract is the law.
 pub fn run_is_short()
     ensures { (columns : ℕ) (rs : List (List ℤ)) (tables : List Table) (t : Table) → AreRowsOver columns rs → IsRun columns (start_table columns rs) tables t → length tables < columns + 2 ^ length rs }
+{}
+
+/// A law: when one more row comes after the others, the run without a width goes on from its end. Nothing is done again.
+/// The function does nothing: its contract is the law.
+pub fn goes_on()
+    ensures { (columns : ℕ) (rs : List (List ℤ)) (q : List ℤ) → AreRowsOver columns (rs ++ q ∷ []) → IsOneRowMore columns rs q }
 {}

@@ -1,5 +1,5 @@
 use Rattle.strict_solver.proofs.Lengths.{run_short}
-use Rattle.strict_solver.proofs.law.run_is_short.Goals as goal
+use Rattle.strict_solver.proofs.laws.run_is_short.Goals as goal
 
 pub returns : goal.returns
 returns c = run_short

@@ -1,5 +1,5 @@
 use Rattle.strict_solver.proofs.Lengths.{moving_short}
-use Rattle.strict_solver.proofs.law.moving_is_short.Goals as goal
+use Rattle.strict_solver.proofs.laws.moving_is_short.Goals as goal
 
 pub returns : goal.returns
 returns c = moving_short
