@@ -1,0 +1,4 @@
+mod TailLemmas
+mod BoundedTest
+mod ReflexiveTest
+mod DemoPairs
