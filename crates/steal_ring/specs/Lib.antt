@@ -1,0 +1,3 @@
+pub mod Conservation
+pub mod Seats
+pub mod Faults
