@@ -1,5 +1,5 @@
 // The scan of the columns in plain Rust, with the loops of `lattice_points`: the yardstick of `bench/run`.
-// It reads a pair text on standard input, and prints the number of points and the seconds of the scan.
+// It reads a pair text on standard input, prints the number of points, and tells the seconds of the scan on standard error.
 use std::time::Instant;
 #[derive(Clone, Copy)]
 struct Extent {
@@ -83,6 +83,9 @@ fn main() {
     std::io::Read::read_to_string(&mut std::io::stdin(), &mut text).unwrap();
     let mut lists = vec![];
     for l in text.lines() {
+        if l.starts_with('#') {
+            continue;
+        }
         if l.starts_with('v') || l.starts_with('d') {
             lists.push(vec![]);
             continue;
@@ -94,5 +97,6 @@ fn main() {
     }
     let t = Instant::now();
     let p = points(&lists[0], &lists[1]);
-    println!("{} points {:.3}s", p.len(), t.elapsed().as_secs_f64());
+    eprintln!("{:.3}s", t.elapsed().as_secs_f64());
+    println!("{} points", p.len());
 }

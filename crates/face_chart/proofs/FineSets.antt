@@ -8,7 +8,7 @@ use Rattle.std.specs.List.{list_any}
 use Rattle.std.proofs.lemmas.Bool.Decides.{nat_tests}
 use Rattle.std.proofs.lemmas.List.Kept.{AllPairs-cons}
 use Rattle.std.proofs.lemmas.List.Elements.{All-contains}
-use Rattle.ntfe_nums.proofs.Tests.{same_from_test, both}
+use Rattle.ntfe_nums.proofs.Comparisons.{same_from_test, both}
 use Rattle.ntfe_model.specs.Lists.{IsBefore2}
 use Rattle.ntfe_model.specs.Charts.{Patch, AreSteps, IsStep}
 use Rattle.ntfe_model.specs.Triangulations.{IsSide, IsFine}

@@ -11,7 +11,7 @@ use Rattle.ntfe_model.specs.Words.{is_same_step, is_before, with_step, after_sid
 use Rattle.ntfe_model.specs.declared.triangle.Triangle.{Triangle}
 use Rattle.ntfe_model.proofs.Listings.{Contains-here, Contains-there, Contains-cases, Contains-none, Contains-filter}
 use Rattle.std.proofs.lemmas.List.Elements.{All-contains}
-use Rattle.ntfe_nums.proofs.Tests.{same_from_test, both}
+use Rattle.ntfe_nums.proofs.Comparisons.{same_from_test, both}
 use Rattle.ntfe_model.proofs.Triples.{Decided, decide_side, decide_is_side, decide_triple_of, side_same, same_back, corner_same, side_of_triple_of, none_paired}
 
 -- ---- steps that are the same

@@ -8,7 +8,7 @@ use Rattle.std.proofs.lemmas.List.Elements.{All-weaker, All-more, All-contains}
 use lib.Signed.{≤ℤ_refl}
 use Rattle.ntfe_nums.specs.Vectors.{Vector, coordinate}
 use Rattle.ntfe_nums.specs.Sizes.{AreWithin}
-use Rattle.ntfe_nums.proofs.Tests.{least_from_test, below_from_test}
+use Rattle.ntfe_nums.proofs.Comparisons.{least_from_test, below_from_test}
 use Rattle.ntfe_model.specs.Pairs.{VertexLists, IsSmall}
 use Rattle.ntfe_model.specs.Points.{IsInside, IsBoxSide, AreColumns}
 use Rattle.lattice_points.specs.Faults.{HasFewColumns, HasColumnsOver}

@@ -9,7 +9,7 @@ use Rattle.ntfe_nums.proofs.Ring.{Expression, ring, right_sum, product_one}
 use Rattle.ntfe_nums.proofs.Ring.Expression.{var, num, plus, minus, times}
 use Rattle.ntfe_nums.proofs.Machine.{machine, raw, exact, fits, back}
 use Rattle.ntfe_nums.specs.Sizes.{AreWithin}
-use Rattle.ntfe_nums.proofs.Tests.{least_from_test, below_from_test}
+use Rattle.ntfe_nums.proofs.Comparisons.{least_from_test, below_from_test}
 use Rattle.ntfe_nums.proofs.Signs.{positive_bits}
 use Rattle.lattice_points.specs.declared.bounds.Extent.{Extent}
 use Rattle.lattice_points.specs.Boxes.{IsWithin}

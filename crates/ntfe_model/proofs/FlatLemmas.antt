@@ -6,7 +6,7 @@ use Rattle.ntfe_nums.specs.Vectors.{Vector, numbers, coordinate}
 use Rattle.ntfe_nums.proofs.Ring.{Expression}
 use Rattle.ntfe_nums.proofs.Ring.Expression.{var, minus, times}
 use Rattle.ntfe_nums.proofs.Machine.{AreBounded, AreWithin-four, back}
-use Rattle.ntfe_nums.proofs.Tests.{least_from_test, below_from_test}
+use Rattle.ntfe_nums.proofs.Comparisons.{least_from_test, below_from_test}
 use Rattle.ntfe_model.specs.Pairs.{IsSmall}
 use Rattle.ntfe_model.specs.declared.flat.Flat.{Flat}
 use Rattle.ntfe_model.specs.Flats.{IsSmallFlat, flat_of}

@@ -1,3 +1,4 @@
+pub mod Comparisons
 pub mod DetLemmas
 pub mod Exchanges
 pub mod LevelLemmas
@@ -5,4 +6,3 @@ pub mod Machine
 pub mod Ring
 pub mod SideLemmas
 pub mod Signs
-pub mod Tests

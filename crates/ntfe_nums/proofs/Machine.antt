@@ -13,7 +13,7 @@ use Rattle.ntfe_nums.specs.Vectors.{numbers, vector, difference}
 use Rattle.ntfe_nums.specs.Sizes.{AreWithin}
 use Rattle.ntfe_nums.proofs.Ring.{Expression, value}
 use Rattle.ntfe_nums.proofs.Ring.Expression.{var, num, plus, minus, times, neg}
-use Rattle.ntfe_nums.proofs.Tests.{both}
+use Rattle.ntfe_nums.proofs.Comparisons.{both}
 
 -- ---- what the code computes
 

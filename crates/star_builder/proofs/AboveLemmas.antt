@@ -4,7 +4,7 @@ use lib.Signed.{lt_z}
 use Rattle.std.proofs.lemmas.Int.{ints}
 use Rattle.std.specs.Int.{w128}
 use Rattle.ntfe_nums.proofs.Machine.{back}
-use Rattle.ntfe_nums.proofs.Tests.{least_from_test}
+use Rattle.ntfe_nums.proofs.Comparisons.{least_from_test}
 use Rattle.ntfe_model.specs.Choices.{height}
 use Rattle.ntfe_model.specs.Stars.{IsMixture, IsLexAbove, IsFirstPositive, push_coefficient}
 use Rattle.ntfe_model.specs.declared.point.Point.{Point}

@@ -8,7 +8,7 @@ use Rattle.ntfe_nums.proofs.Ring.{ring}
 use Rattle.ntfe_nums.proofs.Ring.Expression.{var, num, minus, neg}
 use Rattle.ntfe_nums.proofs.DetLemmas.{row, det4E, dotE, normalE, of4}
 use Rattle.ntfe_nums.proofs.Machine.{exact, back}
-use Rattle.ntfe_nums.proofs.Tests.{least_from_test, below_from_test}
+use Rattle.ntfe_nums.proofs.Comparisons.{least_from_test, below_from_test}
 use Rattle.ntfe_nums.proofs.Signs.{zero_minus}
 
 -- ---- signed words

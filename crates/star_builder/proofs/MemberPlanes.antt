@@ -7,7 +7,7 @@ use Rattle.std.proofs.lemmas.Int.{ints}
 use Rattle.ntfe_nums.specs.Vectors.{Vector, vector_sum, multiple, det4, AreLinearlyIndependent}
 use Rattle.ntfe_nums.proofs.Ring.{ring}
 use Rattle.ntfe_nums.proofs.Ring.Expression.{var, num, minus, plus, times, neg}
-use Rattle.ntfe_nums.proofs.Tests.{same_from_test, other_from_test, cond_is}
+use Rattle.ntfe_nums.proofs.Comparisons.{same_from_test, other_from_test, cond_is}
 use Rattle.ntfe_model.specs.Points.{place_of_point}
 use Rattle.ntfe_model.specs.Choices.{height}
 use Rattle.ntfe_model.specs.Stars.{IsFirstPositive, IsLexAbove, push_coefficient}

@@ -7,7 +7,7 @@ use Rattle.std.proofs.lemmas.List.Folds.{list_any_none}
 use Rattle.ntfe_nums.specs.Vectors.{Vector, coordinate, area}
 use Rattle.ntfe_nums.proofs.Ring.{Expression, ring}
 use Rattle.ntfe_nums.proofs.Ring.Expression.{var, plus, minus, times}
-use Rattle.ntfe_nums.proofs.Tests.{zero_fails, other_passes}
+use Rattle.ntfe_nums.proofs.Comparisons.{zero_fails, other_passes}
 use Rattle.ntfe_nums.proofs.Signs.{no_sum}
 use Rattle.ntfe_model.proofs.Lists.{any_true}
 use Rattle.ntfe_model.specs.Charts.{Patch, Spot, spans, axes}

@@ -19,7 +19,7 @@ use Rattle.ntfe_model.proofs.Listings.{Contains-cases, Contains-none}
 use Rattle.ntfe_model.proofs.SmallVectors.{small_size}
 use Rattle.ntfe_model.proofs.PlaneNumbers.{positive_factor}
 use Rattle.ntfe_nums.proofs.Exchanges.{cramer2, cramer3, cramer4}
-use Rattle.ntfe_nums.proofs.Tests.{same_from_test, other_from_test, cond_is}
+use Rattle.ntfe_nums.proofs.Comparisons.{same_from_test, other_from_test, cond_is}
 use Rattle.ntfe_nums.proofs.Signs.{positive_product}
 use Rattle.star_builder.proofs.FourPoints.{one_at, one_here, one_elsewhere, factors_fixed}
 use Rattle.star_builder.proofs.Rises.{rise, volume}

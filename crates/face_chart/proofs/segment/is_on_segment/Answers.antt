@@ -1,7 +1,7 @@
 use Rattle.std.proofs.Common.{ℕ, ℤ, ◌≡◌, ◌≤◌, ◌∙◌, ◌*ℤ◌, ◌<ℤ◌, ◌≤ℤ◌, true, false, arith, sym, w64, to_z, of_z, List, get_or, pos, unsigned_abs, below_more}
 use lib.Signed.{lt_z}
 use Rattle.ntfe_nums.specs.Vectors.{Vector, vector, numbers, difference, dot}
-use Rattle.ntfe_nums.proofs.Tests.{least_from_test, below_from_test}
+use Rattle.ntfe_nums.proofs.Comparisons.{least_from_test, below_from_test}
 use Rattle.ntfe_model.proofs.FlatLemmas.{word_back, negative_from_test, not_negative_from_test}
 use Rattle.face_chart.proofs.SegmentLemmas.{on_segment, share_low, share_high, share_at}
 use Rattle.face_chart.proofs.segment.is_on_segment.Goals as goal

@@ -2,7 +2,7 @@ use Rattle.std.proofs.Common.{ℕ, ℤ, ◌≡◌, ◌∙◌, Bool, true, false,
 use Rattle.ntfe_nums.specs.Sizes.{AreWithin}
 use Rattle.ntfe_nums.proofs.Ring.Expression.{var, times}
 use Rattle.ntfe_nums.proofs.Machine.{AreBounded, AreWithin-four, exact, fits}
-use Rattle.ntfe_nums.proofs.Tests.{same_from_test, test_from_same}
+use Rattle.ntfe_nums.proofs.Comparisons.{same_from_test, test_from_same}
 use Rattle.face_chart.specs.declared.segment.Share.{Share}
 use Rattle.face_chart.specs.Steps.{IsSmallShare}
 use Rattle.face_chart.proofs.segment.is_share_at.Goals as goal

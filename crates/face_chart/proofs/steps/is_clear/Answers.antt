@@ -1,6 +1,6 @@
 use Rattle.std.proofs.Common.{◌≡◌, ◌≢◌, sym, subst, ℤ, pos, negsuc, ◌<ℤ◌, ◌≤ℤ◌}
 use Rattle.ntfe_nums.specs.Vectors.{Vector, sign}
-use Rattle.ntfe_nums.proofs.Tests.{not_false, not_true}
+use Rattle.ntfe_nums.proofs.Comparisons.{not_false, not_true}
 use Rattle.ntfe_model.specs.Charts.{IsOnSegment}
 use Rattle.ntfe_model.proofs.FlatLemmas.{negative_from_test, not_negative_from_test}
 use Rattle.ntfe_model.proofs.PlaneNumbers.{sign_negative, sign_not_right}

@@ -1,5 +1,5 @@
 use Rattle.std.proofs.Common.{inl, inr, refl}
-use Rattle.ntfe_nums.proofs.Tests.{not_false, not_true}
+use Rattle.ntfe_nums.proofs.Comparisons.{not_false, not_true}
 use Rattle.fine_stream.proofs.Parts.{second_side, third_side, compatible_sides}
 use Rattle.fine_stream.proofs.Separations.{compatible_back}
 use Rattle.fine_stream.proofs.sides.are_compatible.Goals as goal

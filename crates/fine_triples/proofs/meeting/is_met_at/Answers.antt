@@ -3,7 +3,7 @@ use Rattle.ntfe_nums.specs.Sizes.{AreWithin}
 use Rattle.ntfe_nums.proofs.Ring.{Expression}
 use Rattle.ntfe_nums.proofs.Ring.Expression.{var, minus, times}
 use Rattle.ntfe_nums.proofs.Machine.{AreBounded, AreWithin-four, exact, fits}
-use Rattle.ntfe_nums.proofs.Tests.{same_from_test}
+use Rattle.ntfe_nums.proofs.Comparisons.{same_from_test}
 use Rattle.face_chart.proofs.Walk.{number_same}
 use Rattle.fine_triples.specs.declared.meeting.Shares.{Shares}
 use Rattle.fine_triples.specs.ShareNumbers.{AreSmallShares}

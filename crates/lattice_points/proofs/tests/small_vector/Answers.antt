@@ -1,6 +1,6 @@
 use Rattle.std.proofs.Common.{sym, subst, pos, negsuc, get_or, w64, to_z, of_z, ◌≡◌}
 use Rattle.ntfe_nums.specs.Vectors.{Vector}
-use Rattle.ntfe_nums.proofs.Tests.{least_from_test}
+use Rattle.ntfe_nums.proofs.Comparisons.{least_from_test}
 use Rattle.ntfe_model.specs.Pairs.{IsSmall}
 use Rattle.lattice_points.specs.Lines.{place}
 use Rattle.lattice_points.proofs.tests.small_vector.Goals as goal

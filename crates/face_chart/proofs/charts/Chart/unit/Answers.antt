@@ -1,6 +1,6 @@
 use Rattle.std.proofs.Common.{ℤ, pos, ◌<ℤ◌, ◌≤ℤ◌, Bool, true, false, ◌≡◌, ◌≤◌, sym, ap, subst, ◌∙◌, arith, unsigned_abs, w64, of_z}
 use Rattle.std.proofs.lemmas.Int.{ints}
-use Rattle.ntfe_nums.proofs.Tests.{same_from_test, test_from_same}
+use Rattle.ntfe_nums.proofs.Comparisons.{same_from_test, test_from_same}
 use Rattle.ntfe_model.specs.Charts.{Patch}
 use Rattle.face_chart.specs.Units.{IsUnitArea}
 use Rattle.ntfe_model.proofs.FlatLemmas.{positive_from_test, not_positive_from_test}

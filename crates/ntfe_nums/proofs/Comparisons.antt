@@ -1,4 +1,4 @@
--- What tests of numbers and of truth values say.
+-- What comparisons of numbers and tests of truth values say.
 use Rattle.std.proofs.Common.{◌≡◌, ◌≢◌, ◌==◌, ◌&&◌, not, ℕ, Bool, true, false, refl, ap, arith, ℤ, pos, ◌<ℤ◌, ◌≤ℤ◌, cond}
 use lib.Signed.{lt_z}
 use Rattle.std.specs.Ordering.{int_eq}
