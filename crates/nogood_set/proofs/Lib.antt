@@ -1,1 +1,2 @@
-pub mod Blocked
+pub mod Chains
+pub mod Walks
