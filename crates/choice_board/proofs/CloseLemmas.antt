@@ -11,7 +11,7 @@ use Rattle.choice_board.specs.Making.{record_made, pruned_made}
 use Rattle.choice_board.specs.States.{State, IsSound}
 use Rattle.choice_board.specs.Views.{state_of}
 use Rattle.choice_board.specs.Settling.{IsSettled, totals_taken}
-use Rattle.choice_board.specs.declared.made.Made.{Made}
+use Rattle.choice_board.specs.declared.opening.Made.{Made}
 use Rattle.choice_board.specs.declared.record.Record.{Record}
 use Rattle.choice_board.specs.declared.totals.Totals.{Totals}
 use Rattle.choice_board.specs.declared.verdict.Verdict.{Verdict}

@@ -8,7 +8,7 @@ pub mod StartLemmas
 pub mod TellLemmas
 pub mod LeastLemmas
 pub mod CloseLemmas
-pub mod TurnLemmas
+pub mod OrderLemmas
 pub mod OutcomeLemmas
 pub mod CourseLemmas
 pub mod CountLemmas

@@ -7,7 +7,7 @@ use Rattle.ntfe_model.specs.Lists.{IsBelow}
 use Rattle.ntfe_model.specs.Keys.{IsKey}
 use Rattle.choice_board.specs.States.{State, IsTrueRecord, place_of_record, IsSound}
 use Rattle.choice_board.specs.Views.{state_of}
-use Rattle.choice_board.specs.Turns.{HasTurn}
+use Rattle.choice_board.specs.Order.{ComesFirst}
 use Rattle.choice_board.specs.Telling.{IsTaken, IsHandedOut, IsWaiting, outcome_told, totals_written}
 use Rattle.choice_board.specs.declared.outcome.Outcome.{Outcome}
 use Rattle.choice_board.specs.declared.outcome.Outcome.TheVariants.{Class, Wide, Far}
@@ -19,7 +19,7 @@ use Rattle.choice_board.specs.declared.record.Stop.TheVariants.{Wide as StopWide
 use Rattle.choice_board.specs.declared.totals.Totals.{Totals}
 use Rattle.ntfe_model.proofs.Counts.{faces_few}
 use Rattle.choice_board.proofs.TellLemmas.{taken, class_sound, stop_sound, end_is_next}
-use Rattle.choice_board.proofs.TurnLemmas.{end_of, waits_without_turn}
+use Rattle.choice_board.proofs.OrderLemmas.{end_of, waits_otherwise}
 
 -- r is the end of the row of recorded outcomes, and has its turn
 pub record HasEnd (s : State) (rest : List Record) (r : Record) : Type 0 where
@@ -31,7 +31,7 @@ none_from_test : (o : Option Stop) (b : Bool) → b ≡ is_some o → b ≡ fals
 none_from_test None b e f = refl
 none_from_test (Some x) b e f = absurd (let g : false ≡ true = sym f ∙ e in cc)
 
-pub has_end : (s : State) (rest : List Record) (r : Record) (b : Bool) → b ≡ is_some s.stop → b ≡ false → HasTurn s.recorded s.open_keys → s.recorded ≡ rest ++ r ∷ [] → HasEnd s rest r
+pub has_end : (s : State) (rest : List Record) (r : Record) (b : Bool) → b ≡ is_some s.stop → b ≡ false → ComesFirst s.recorded s.open_keys → s.recorded ≡ rest ++ r ∷ [] → HasEnd s rest r
 has_end s rest r b e f (others, q, g, clear) row = record {
   running = none_from_test s.stop b e f;
   row = row;
@@ -111,17 +111,17 @@ stopped_waits s b e f = inl (λ g. (let h : true ≡ false = sym f ∙ e ∙ ap 
 
 -- ---- from what the calls say
 
-pub turn_through : (s : State) (recorded : List Record) (keys : List (List ℕ)) → recorded ≡ s.recorded → keys ≡ s.open_keys → HasTurn recorded keys → HasTurn s.recorded s.open_keys
-turn_through s recorded keys e f h =
-    let P : List Record → Type 0 = λ xs. HasTurn xs keys in
-    let Q : List (List ℕ) → Type 0 = HasTurn s.recorded in
+pub first_through : (s : State) (recorded : List Record) (keys : List (List ℕ)) → recorded ≡ s.recorded → keys ≡ s.open_keys → ComesFirst recorded keys → ComesFirst s.recorded s.open_keys
+first_through s recorded keys e f h =
+    let P : List Record → Type 0 = λ xs. ComesFirst xs keys in
+    let Q : List (List ℕ) → Type 0 = ComesFirst s.recorded in
     subst Q f (subst P e h)
 
-pub no_turn_waits : (s : State) (recorded : List Record) (keys : List (List ℕ)) → IsSound s → recorded ≡ s.recorded → keys ≡ s.open_keys → ¬ (HasTurn recorded keys) → IsWaiting s
-no_turn_waits s recorded keys sound e f none =
-    let P : List Record → Type 0 = λ xs. ¬ (HasTurn xs keys) in
-    let Q : List (List ℕ) → Type 0 = λ xs. ¬ (HasTurn s.recorded xs) in
-    waits_without_turn s sound (subst Q f (subst P e none))
+pub none_first_waits : (s : State) (recorded : List Record) (keys : List (List ℕ)) → IsSound s → recorded ≡ s.recorded → keys ≡ s.open_keys → ¬ (ComesFirst recorded keys) → IsWaiting s
+none_first_waits s recorded keys sound e f none =
+    let P : List Record → Type 0 = λ xs. ¬ (ComesFirst xs keys) in
+    let Q : List (List ℕ) → Type 0 = λ xs. ¬ (ComesFirst s.recorded xs) in
+    waits_otherwise s sound (subst Q f (subst P e none))
 
 -- ---- what was found, from what is told
 

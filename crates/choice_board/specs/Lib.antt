@@ -5,7 +5,7 @@ pub mod States
 pub mod Making
 pub mod Starts
 pub mod Views
-pub mod Turns
+pub mod Order
 pub mod Settling
 pub mod Telling
 pub mod Courses

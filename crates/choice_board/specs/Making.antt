@@ -1,8 +1,8 @@
 -- What is kept of a closed key.
 use Rattle.std.specs.Prelude.{ℕ, List, [], ◌∷◌, Option, Some, None}
 use Rattle.ntfe_model.specs.declared.nogood.Nogood.{Nogood}
-use Rattle.choice_board.specs.declared.made.Made.{Made}
-use Rattle.choice_board.specs.declared.made.Made.TheVariants.{Nothing, Told, Blocked}
+use Rattle.choice_board.specs.declared.opening.Made.{Made}
+use Rattle.choice_board.specs.declared.opening.Made.TheVariants.{Nothing, Told, Blocked}
 use Rattle.choice_board.specs.declared.record.Record.{Record}
 
 -- the outcome that is recorded

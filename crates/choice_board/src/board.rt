@@ -1,12 +1,12 @@
 //! The board: open keys, recorded outcomes and pruned keys of one geometry.
 use crate::changes::{insert_keys, make_room, put};
-use crate::made::{choice_from, copied_keys, made_of, opened_keys};
+use crate::opening::{choice_from, copied_keys, made_of, opened_keys};
 use crate::outcome::{Outcome, outcome_of};
 use crate::record::{Record, Stop};
 use crate::rows::{Keyed, find};
 use crate::start::start_keys;
 use crate::totals::Totals;
-use crate::turn::has_turn;
+use crate::order::comes_first;
 use crate::verdict::{Settled, Verdict};
 use ntfe_model::{Choice, Geometry, Key, List, Nogood};
 use std::alloc::{AllocError, Global};
@@ -164,7 +164,7 @@ impl Board {
         ensures answer { MatchOption result ((self.new ≡ self.old) × IsWaiting self.old) (λ o. IsHandedOut self.old self.new o) }
         ensures sound { IsSound self.new }
     {
-        if self.stop.is_some() || !has_turn(self.recorded.as_slice(), self.keys.as_slice()) {
+        if self.stop.is_some() || !comes_first(self.recorded.as_slice(), self.keys.as_slice()) {
             return None;
         }
         let Record { key, found } = self.recorded.pop()?;

@@ -4,7 +4,7 @@ ghost use Rattle.choice_board.specs.Making.{record_made, pruned_made};
 ghost use Rattle.choice_board.specs.Rows.{IsFalling};
 ghost use Rattle.choice_board.specs.declared.record.Record.{Record};
 
-use crate::made::Made;
+use crate::opening::Made;
 use crate::record::Record;
 use crate::rows::{insert_key, insert_record};
 use ntfe_model::{Key, Nogood};

@@ -3,18 +3,18 @@
 
 mod board;
 mod changes;
-mod law;
-mod made;
+mod laws;
+mod opening;
+mod order;
 mod outcome;
 mod record;
 mod rows;
 mod start;
 mod totals;
-mod turn;
 mod verdict;
 
 pub use board::Board;
-pub use law::{classes_have_no_gaps, totals_count_the_calls};
+pub use laws::{classes_have_no_gaps, totals_count_the_calls};
 pub use outcome::Outcome;
 pub use totals::Totals;
 pub use verdict::{Settled, Verdict};

@@ -2,13 +2,13 @@
 ghost use Rattle.std.specs.Prelude.{◌≡◌, IfOk};
 
 use crate::changes::insert_keys;
-use crate::made::opened_keys;
+use crate::opening::opened_keys;
 use crate::outcome::{Outcome, outcome_of};
 use crate::record::Found;
 use crate::rows::Keyed;
 use crate::start::start_keys;
 use crate::totals::Totals;
-use crate::turn::has_turn;
+use crate::order::comes_first;
 use crate::verdict::Verdict;
 use ntfe_model::{Key, List};
 use std::alloc::{AllocError, Global};
@@ -75,7 +75,7 @@ fn a_key_is_gone_into(rt: HostRuntime) -> Result<(), AllocError> {
 
 #[test]
 fn nothing_has_its_turn(rt: HostRuntime) {
-    assert!(rt; !has_turn(&[], &[]));
+    assert!(rt; !comes_first(&[], &[]));
 }
 
 #[test]

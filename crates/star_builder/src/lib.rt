@@ -2,26 +2,27 @@
 #![tactic(auto)]
 
 mod above;
+mod building;
 mod closing;
 mod extendable;
 mod facets;
 mod facing;
 mod four;
 mod frame;
-mod gather;
-mod levels;
+mod left_triples;
 mod lexicographic;
 mod mixing;
 mod origin;
 mod outline;
 mod restricted;
 mod restriction;
+mod rising_fours;
 mod search;
 mod span;
 mod star;
 mod ties;
-mod whole;
 
+pub use building::build;
 pub use closing::star_closes;
 pub use extendable::extendable_is_induced;
 pub use facing::facets_meet;
@@ -30,4 +31,3 @@ pub use origin::{origin_height, origin_lies_low};
 pub use restricted::restriction_is_fine;
 pub use restriction::restrict;
 pub use star::Star;
-pub use whole::build;

@@ -4,7 +4,7 @@ ghost use Rattle.ntfe_model.specs.Charts.{patch_at};
 ghost use Rattle.ntfe_model.specs.Stars.{IsRestriction};
 ghost use Rattle.star_builder.specs.Gathered.{triangle_of};
 
-use crate::gather::gather_all;
+use crate::left_triples::gather_all;
 use crate::outline::Outline;
 use crate::star::Star;
 use ntfe_model::{Geometry, List, Triangle};

@@ -6,8 +6,8 @@ mod meet;
 mod numbers;
 mod plane;
 #[cfg(test)]
+mod geometries;
 mod tests;
-mod whole;
 
+pub use geometries::geometry;
 pub use list::faces;
-pub use whole::geometry;

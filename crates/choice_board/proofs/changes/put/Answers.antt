@@ -1,6 +1,6 @@
 use Rattle.std.proofs.Common.{◌≡◌, sym, ap, subst, ◌↔◌, Some}
 use Rattle.choice_board.specs.Making.{record_made}
-use Rattle.choice_board.specs.declared.made.Made.{Made}
+use Rattle.choice_board.specs.declared.opening.Made.{Made}
 use Rattle.choice_board.specs.declared.record.Record.{Record}
 use Rattle.choice_board.proofs.RowLemmas.{has_other}
 use Rattle.choice_board.proofs.changes.put.Goals as goal

@@ -3,8 +3,8 @@ use Rattle.choice_board.specs.States.{State, IsSound}
 use Rattle.choice_board.specs.Telling.{IsHandedOut, IsWaiting, outcome_told}
 use Rattle.choice_board.specs.Views.{state_of}
 use Rattle.choice_board.specs.declared.record.Stop.TheVariants.{Wide as StopWide, Far as StopFar}
-use Rattle.choice_board.proofs.OutcomeLemmas.{HasEnd, has_end, turn_through, no_turn_waits, stopped_waits, class_state, class_state_sound, class_handed, stop_state, wide_state_sound, wide_handed, far_state_sound, far_handed, record_few, told_class, told_wide, told_far}
-use Rattle.choice_board.proofs.board.Board.ready.Goals.{then-is_some-via-then-is_some, then-is_some-via-else-is_some+then-not-has_turn}
+use Rattle.choice_board.proofs.OutcomeLemmas.{HasEnd, has_end, first_through, none_first_waits, stopped_waits, class_state, class_state_sound, class_handed, stop_state, wide_state_sound, wide_handed, far_state_sound, far_handed, record_few, told_class, told_wide, told_far}
+use Rattle.choice_board.proofs.board.Board.ready.Goals.{then-is_some-via-then-is_some, then-is_some-via-else-is_some+then-not-comes_first}
 use Rattle.choice_board.proofs.board.Board.ready.Goals as goal
 
 pub returns-then-is_some-clause-answer : goal.returns-then-is_some-clause-answer
@@ -15,8 +15,8 @@ returns-then-is_some-clause-answer c =
       subst IsWaiting c.self.view_is
           (elim c.then-is_some.branch [
             | then-is_some-via-then-is_some w ↦ stopped_waits s c.is_some.result c.is_some.ensures w.if-is_some.true
-            | then-is_some-via-else-is_some+then-not-has_turn w ↦
-                no_turn_waits s w.as_slice.result.now w.as_slice-else-is_some.result.now sound w.as_slice.ensures.value w.as_slice-else-is_some.ensures.value (w.if-not-has_turn.ensures.when_false refl)
+            | then-is_some-via-else-is_some+then-not-comes_first w ↦
+                none_first_waits s w.as_slice.result.now w.as_slice-else-is_some.result.now sound w.as_slice.ensures.value w.as_slice-else-is_some.ensures.value (w.if-not-comes_first.ensures.when_false refl)
           ]),
     )
 
@@ -26,7 +26,7 @@ outcome_of-outcome-requires-clause-few c =
     let r = c.in_ok-key.field-0 in
     let e : HasEnd s c.pop.new.self.items r =
     has_end s c.pop.new.self.items r c.is_some.result c.is_some.ensures c.if-is_some.false
-    (turn_through s c.as_slice.result.now c.as_slice-else-is_some.result.now c.as_slice.ensures.value c.as_slice-else-is_some.ensures.value (c.if-not-has_turn.ensures.when_true refl)) c.in_ok-key.ensures.items in
+    (first_through s c.as_slice.result.now c.as_slice-else-is_some.result.now c.as_slice.ensures.value c.as_slice-else-is_some.ensures.value (c.if-not-comes_first.ensures.when_true refl)) c.in_ok-key.ensures.items in
     let few : length r.key ≤ 5000 = record_few s c.pop.new.self.items r c.self.invariant e in
     omega arith
 
@@ -36,7 +36,7 @@ invariant_of-self-in-Class c =
     let r = c.in_ok-key.field-0 in
     let e : HasEnd s c.pop.new.self.items r =
     has_end s c.pop.new.self.items r c.is_some.result c.is_some.ensures c.if-is_some.false
-    (turn_through s c.as_slice.result.now c.as_slice-else-is_some.result.now c.as_slice.ensures.value c.as_slice-else-is_some.ensures.value (c.if-not-has_turn.ensures.when_true refl)) c.in_ok-key.ensures.items in
+    (first_through s c.as_slice.result.now c.as_slice-else-is_some.result.now c.as_slice.ensures.value c.as_slice-else-is_some.ensures.value (c.if-not-comes_first.ensures.when_true refl)) c.in_ok-key.ensures.items in
     let f = told_class r.key r.found c.outcome_of-outcome.result c.in-Class.field-0 c.in-Class.field-1 c.outcome_of-outcome.ensures c.in-Class.is in
     class_state_sound s c.pop.new.self.items r c.choice_from.result c.in-Class.field-0 c.in-Class.field-1 c.with_written-self-inside.result c.self.invariant e c.choice_from.ensures f
 
@@ -46,7 +46,7 @@ returns-in-Class-clause-sound c =
     let r = c.in_ok-key.field-0 in
     let e : HasEnd s c.pop.new.self.items r =
     has_end s c.pop.new.self.items r c.is_some.result c.is_some.ensures c.if-is_some.false
-    (turn_through s c.as_slice.result.now c.as_slice-else-is_some.result.now c.as_slice.ensures.value c.as_slice-else-is_some.ensures.value (c.if-not-has_turn.ensures.when_true refl)) c.in_ok-key.ensures.items in
+    (first_through s c.as_slice.result.now c.as_slice-else-is_some.result.now c.as_slice.ensures.value c.as_slice-else-is_some.ensures.value (c.if-not-comes_first.ensures.when_true refl)) c.in_ok-key.ensures.items in
     let f = told_class r.key r.found c.outcome_of-outcome.result c.in-Class.field-0 c.in-Class.field-1 c.outcome_of-outcome.ensures c.in-Class.is in
     class_state_sound s c.pop.new.self.items r c.choice_from.result c.in-Class.field-0 c.in-Class.field-1 c.with_written-self-inside.result c.self.invariant e c.choice_from.ensures f
 
@@ -56,7 +56,7 @@ returns-in-Class-clause-answer c =
     let r = c.in_ok-key.field-0 in
     let e : HasEnd s c.pop.new.self.items r =
     has_end s c.pop.new.self.items r c.is_some.result c.is_some.ensures c.if-is_some.false
-    (turn_through s c.as_slice.result.now c.as_slice-else-is_some.result.now c.as_slice.ensures.value c.as_slice-else-is_some.ensures.value (c.if-not-has_turn.ensures.when_true refl)) c.in_ok-key.ensures.items in
+    (first_through s c.as_slice.result.now c.as_slice-else-is_some.result.now c.as_slice.ensures.value c.as_slice-else-is_some.ensures.value (c.if-not-comes_first.ensures.when_true refl)) c.in_ok-key.ensures.items in
     let f = told_class r.key r.found c.outcome_of-outcome.result c.in-Class.field-0 c.in-Class.field-1 c.outcome_of-outcome.ensures c.in-Class.is in
     let t = class_state s c.pop.new.self.items c.choice_from.result c.with_written-self-inside.result in
     let P : State → Type 0 = λ x. IsHandedOut x t c.outcome_of-outcome.result in
@@ -68,7 +68,7 @@ invariant_of-self-in-Wide c =
     let r = c.in_ok-key.field-0 in
     let e : HasEnd s c.pop.new.self.items r =
     has_end s c.pop.new.self.items r c.is_some.result c.is_some.ensures c.if-is_some.false
-    (turn_through s c.as_slice.result.now c.as_slice-else-is_some.result.now c.as_slice.ensures.value c.as_slice-else-is_some.ensures.value (c.if-not-has_turn.ensures.when_true refl)) c.in_ok-key.ensures.items in
+    (first_through s c.as_slice.result.now c.as_slice-else-is_some.result.now c.as_slice.ensures.value c.as_slice-else-is_some.ensures.value (c.if-not-comes_first.ensures.when_true refl)) c.in_ok-key.ensures.items in
     let f = told_wide r.key r.found c.outcome_of-outcome.result c.in-Wide.choice c.in-Wide.step c.in-Wide.number c.outcome_of-outcome.ensures c.in-Wide.is in
     wide_state_sound s c.pop.new.self.items r c.in-Wide.choice c.in-Wide.step c.in-Wide.number c.self.invariant e f
 
@@ -78,7 +78,7 @@ returns-in-Wide-clause-sound c =
     let r = c.in_ok-key.field-0 in
     let e : HasEnd s c.pop.new.self.items r =
     has_end s c.pop.new.self.items r c.is_some.result c.is_some.ensures c.if-is_some.false
-    (turn_through s c.as_slice.result.now c.as_slice-else-is_some.result.now c.as_slice.ensures.value c.as_slice-else-is_some.ensures.value (c.if-not-has_turn.ensures.when_true refl)) c.in_ok-key.ensures.items in
+    (first_through s c.as_slice.result.now c.as_slice-else-is_some.result.now c.as_slice.ensures.value c.as_slice-else-is_some.ensures.value (c.if-not-comes_first.ensures.when_true refl)) c.in_ok-key.ensures.items in
     let f = told_wide r.key r.found c.outcome_of-outcome.result c.in-Wide.choice c.in-Wide.step c.in-Wide.number c.outcome_of-outcome.ensures c.in-Wide.is in
     wide_state_sound s c.pop.new.self.items r c.in-Wide.choice c.in-Wide.step c.in-Wide.number c.self.invariant e f
 
@@ -88,7 +88,7 @@ returns-in-Wide-clause-answer c =
     let r = c.in_ok-key.field-0 in
     let e : HasEnd s c.pop.new.self.items r =
     has_end s c.pop.new.self.items r c.is_some.result c.is_some.ensures c.if-is_some.false
-    (turn_through s c.as_slice.result.now c.as_slice-else-is_some.result.now c.as_slice.ensures.value c.as_slice-else-is_some.ensures.value (c.if-not-has_turn.ensures.when_true refl)) c.in_ok-key.ensures.items in
+    (first_through s c.as_slice.result.now c.as_slice-else-is_some.result.now c.as_slice.ensures.value c.as_slice-else-is_some.ensures.value (c.if-not-comes_first.ensures.when_true refl)) c.in_ok-key.ensures.items in
     let f = told_wide r.key r.found c.outcome_of-outcome.result c.in-Wide.choice c.in-Wide.step c.in-Wide.number c.outcome_of-outcome.ensures c.in-Wide.is in
     let t = stop_state s c.pop.new.self.items (StopWide r.key) in
     let P : State → Type 0 = λ x. IsHandedOut x t c.outcome_of-outcome.result in
@@ -100,7 +100,7 @@ invariant_of-self-in-Far c =
     let r = c.in_ok-key.field-0 in
     let e : HasEnd s c.pop.new.self.items r =
     has_end s c.pop.new.self.items r c.is_some.result c.is_some.ensures c.if-is_some.false
-    (turn_through s c.as_slice.result.now c.as_slice-else-is_some.result.now c.as_slice.ensures.value c.as_slice-else-is_some.ensures.value (c.if-not-has_turn.ensures.when_true refl)) c.in_ok-key.ensures.items in
+    (first_through s c.as_slice.result.now c.as_slice-else-is_some.result.now c.as_slice.ensures.value c.as_slice-else-is_some.ensures.value (c.if-not-comes_first.ensures.when_true refl)) c.in_ok-key.ensures.items in
     let f = told_far r.key r.found c.outcome_of-outcome.result c.in-Far.face c.outcome_of-outcome.ensures c.in-Far.is in
     far_state_sound s c.pop.new.self.items r c.self.invariant e f
 
@@ -110,7 +110,7 @@ returns-in-Far-clause-sound c =
     let r = c.in_ok-key.field-0 in
     let e : HasEnd s c.pop.new.self.items r =
     has_end s c.pop.new.self.items r c.is_some.result c.is_some.ensures c.if-is_some.false
-    (turn_through s c.as_slice.result.now c.as_slice-else-is_some.result.now c.as_slice.ensures.value c.as_slice-else-is_some.ensures.value (c.if-not-has_turn.ensures.when_true refl)) c.in_ok-key.ensures.items in
+    (first_through s c.as_slice.result.now c.as_slice-else-is_some.result.now c.as_slice.ensures.value c.as_slice-else-is_some.ensures.value (c.if-not-comes_first.ensures.when_true refl)) c.in_ok-key.ensures.items in
     let f = told_far r.key r.found c.outcome_of-outcome.result c.in-Far.face c.outcome_of-outcome.ensures c.in-Far.is in
     far_state_sound s c.pop.new.self.items r c.self.invariant e f
 
@@ -120,7 +120,7 @@ returns-in-Far-clause-answer c =
     let r = c.in_ok-key.field-0 in
     let e : HasEnd s c.pop.new.self.items r =
     has_end s c.pop.new.self.items r c.is_some.result c.is_some.ensures c.if-is_some.false
-    (turn_through s c.as_slice.result.now c.as_slice-else-is_some.result.now c.as_slice.ensures.value c.as_slice-else-is_some.ensures.value (c.if-not-has_turn.ensures.when_true refl)) c.in_ok-key.ensures.items in
+    (first_through s c.as_slice.result.now c.as_slice-else-is_some.result.now c.as_slice.ensures.value c.as_slice-else-is_some.ensures.value (c.if-not-comes_first.ensures.when_true refl)) c.in_ok-key.ensures.items in
     let f = told_far r.key r.found c.outcome_of-outcome.result c.in-Far.face c.outcome_of-outcome.ensures c.in-Far.is in
     let t = stop_state s c.pop.new.self.items (StopFar r.key) in
     let P : State → Type 0 = λ x. IsHandedOut x t c.outcome_of-outcome.result in

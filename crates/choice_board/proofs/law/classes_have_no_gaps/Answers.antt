@@ -1,5 +1,0 @@
-use Rattle.choice_board.proofs.CourseLemmas.{without_gaps}
-use Rattle.choice_board.proofs.law.classes_have_no_gaps.Goals as goal
-
-pub returns : goal.returns
-returns c = without_gaps

@@ -1,5 +1,0 @@
-use Rattle.choice_board.proofs.CountLemmas.{course_counted}
-use Rattle.choice_board.proofs.law.totals_count_the_calls.Goals as goal
-
-pub returns : goal.returns
-returns c = course_counted

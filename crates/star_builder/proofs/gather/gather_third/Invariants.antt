@@ -1,9 +1,0 @@
-use Rattle.std.proofs.Common.{◌≡◌}
-use Rattle.star_builder.specs.Gathered.{Gathers}
-use Rattle.star_builder.specs.Outlines.{patch, AreLeft}
-use Rattle.star_builder.proofs.GatherLemmas.{GivenBy}
-use Rattle.star_builder.proofs.gather.gather_third.Given as goal
-
-abbrev pub invariant-loop-c : goal.invariant-loop-c
-invariant-loop-c l =
-    Gathers (GivenBy l.simplex (λ x i j k. (i ≡ l.a) × (j ≡ l.b) × (k ≡ x) × AreLeft (patch l.outline.numbers.now l.outline.points.now) i j k) l.c-index) l.initial.triples.items l.triples.items
