@@ -1,4 +1,5 @@
 pub mod Causes
+pub mod Changes
 pub mod Lines
 pub mod Memory
 pub mod Reading

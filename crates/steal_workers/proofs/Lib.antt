@@ -1,0 +1,9 @@
+pub mod Heights
+pub mod ClassBlocks
+pub mod NextBlocks
+pub mod Ends
+pub mod KeyValues
+pub mod LiveKeys
+pub mod Settled
+pub mod HandedOut
+pub mod Probed

@@ -1,0 +1,105 @@
+//! What is found out about a key.
+ghost use Rattle.std.specs.Prelude.{◌≡◌, ◌≤◌, All, IfOk};
+ghost use Rattle.ntfe_model.specs.Certificates.{IsCertificate};
+ghost use Rattle.ntfe_model.specs.Keys.{IsKey};
+ghost use Rattle.steal_workers.specs.Probing.{FindsWithin, IsVerdictOf, IsVerdictOn};
+
+use choice_board::Verdict;
+use node_probe::{Finding, Shelf, probe_shelved};
+use nogood_set::NogoodSet;
+use ntfe_model::{Book, Geometry, Key};
+use std::alloc::{AllocError, Global};
+use std::marker::Model;
+use strict_solver::Tableau;
+
+/// The rows that a prober's tableau has at first. A larger one takes its place where a key needs it.
+const FIRST_ROWS: u32 = 64;
+
+/// What probes the keys of a geometry, with solver numbers below 2^width in size.
+#[derive(Drop)]
+pub struct Prober<'g> {
+    alloc: Global,
+    geometry: &'g Geometry,
+    shelf: Shelf,
+    tableau: Tableau,
+    width: u8,
+}
+
+impl<'g> Model for Prober<'g> {
+    ghost use Rattle.steal_workers.specs.Probing.{Probes, IsProber};
+
+    ghost Value = { Probes };
+
+    ghost view = { λ p. record { geometry = p.geometry.now; width = p.width } };
+
+    ghost invariant = { λ p. IsProber p.geometry.now p.shelf p.tableau.columns p.width };
+}
+
+/// The verdict of a finding. A key that a certificate of the set blocks is pruned by a copy of it.
+fn verdict_of(alloc: Global, finding: Finding, set: &NogoodSet<'_>) -> Result<Verdict, AllocError>
+    requires { FindsWithin set.now finding }
+    ensures { IfOk result (IsVerdictOf set.now finding) }
+{
+    match finding {
+        Finding::End => Ok(Verdict::End),
+        Finding::Far { .. } => Ok(Verdict::Far),
+        Finding::Blocked(place) => Ok(Verdict::Pruned(set.entry(place).try_clone(alloc)?)),
+        Finding::Refuted(nogood) => Ok(Verdict::Pruned(nogood)),
+        Finding::Wide { step, number } => Ok(Verdict::Wide { step, number }),
+        Finding::Class(heights) => Ok(Verdict::Class(heights)),
+        Finding::Descend => Ok(Verdict::Descend),
+    }
+}
+
+impl<'g> Prober<'g> {
+    /// A prober of the geometry's keys. The width is from 1 to 62.
+    ///
+    /// # Errors
+    /// `AllocError` where memory is short.
+    pub fn new(alloc: Global, geometry: &'g Geometry, width: u8) -> Result<Prober<'g>, AllocError>
+        requires low { 1 ≤ width }
+        requires high { width ≤ 62 }
+        ensures { IfOk result (λ p. p ≡ record { geometry = geometry.now; width = width }) }
+    {
+        let columns = geometry.points().len() as u32;
+        let shelf = Shelf::new(alloc, geometry)?;
+        let tableau = Tableau::reserve(alloc, FIRST_ROWS, columns)?;
+        Ok(Prober {
+            alloc,
+            geometry,
+            shelf,
+            tableau,
+            width,
+        })
+    }
+
+    /// A true verdict on the key, with the items of a book of the geometry and certificates of it.
+    ///
+    /// # Errors
+    /// `AllocError` where memory is short.
+    pub fn find<B: Book>(
+        &mut self,
+        key: &Key,
+        book: &mut B,
+        set: &NogoodSet<'_>,
+    ) -> Result<Verdict, AllocError>
+        requires key { IsKey self.old.geometry key.now }
+        requires book { B.shape book.old ≡ self.old.geometry }
+        requires set { All (IsCertificate self.old.geometry) set.now }
+        ensures same { self.new ≡ self.old }
+        ensures book { B.shape book.new ≡ B.shape book.old }
+        ensures verdict { IfOk result (IsVerdictOn self.old.geometry self.old.width key.now) }
+    {
+        let finding = probe_shelved(
+            self.alloc,
+            self.geometry,
+            key,
+            book,
+            &mut self.shelf,
+            set,
+            &mut self.tableau,
+            self.width,
+        )?;
+        verdict_of(self.alloc, finding, set)
+    }
+}
