@@ -1,56 +1,79 @@
--- From the writing of an answer to the status, and from the status to what it says of the run.
-use Rattle.std.proofs.Common.{◌≡◌, refl, sym, ap, subst, ℕ, List, Result, Ok, Err, inr}
+-- From the reading of an input and the writing of its answer to what the status says of the command.
+use Rattle.std.proofs.Common.{◌≡◌, refl, sym, ap, subst, ℕ, List, Some, None, Result, Ok, Err, inl, inr}
 use Rattle.std.specs.Prelude.{Option, IfErr}
+use Rattle.std.specs.Io.KnownBytes.{Keeps}
 use Rattle.io_edge.proofs.Pieces.{prefix_all}
+use Rattle.io_edge.specs.Changes.{Change}
 use Rattle.io_edge.specs.Lines.{WritesText}
 use Rattle.io_edge.specs.declared.line_fault.LineFault.{LineFault}
 use Rattle.io_edge.specs.declared.line_fault.LineFault.TheVariants as line
 use Rattle.ntfe_model.specs.Shapes.{Shape}
 use Rattle.ntfe_model.specs.FacesText.{faces_text}
-use Rattle.ntfe_run.specs.Answers.{IsWideEnd, IsFarEnd, IsTooWide, HasTooMany, IsAnswer, IsReadInput, HasTaskCause, HasWritten}
-use Rattle.ntfe_run.specs.Halts.{IsStatusOf}
+use Rattle.ntfe_words.specs.declared.command.Options.{Options}
+use Rattle.ntfe_run.specs.Edges.{Edges}
+use Rattle.ntfe_run.specs.Rooms.{Room, IsReadInput, IsAnswer, IsAnswered, HasCause, HasText}
+use Rattle.ntfe_run.specs.Commands.{classes_room, faces_room, input_limit}
+use Rattle.ntfe_run.specs.Statuses.{status_of_lines, IsReadStop}
 use Rattle.ntfe_run.specs.Messages.{TellsMessage}
-use Rattle.ntfe_run.specs.declared.task.Task.{Task}
-use Rattle.ntfe_run.specs.declared.task.Task.TheVariants.{Classes, Faces}
+use Rattle.ntfe_run.specs.declared.status.Refusal.{Refusal}
+use Rattle.ntfe_run.specs.declared.status.Refusal.TheVariants.{Size, Text, Pair, Points, Unready}
 use Rattle.ntfe_run.specs.declared.status.Status.{Status}
 use Rattle.ntfe_run.specs.declared.status.Status.TheVariants.{Done, Usage, Refused, Overflow, Limit, Memory, ReadFault, WriteFault}
 
 -- the points and two-faces are a text of their own
-pub answered : (g : Shape) (a b : Option (List ℕ)) (f h : ℕ) (r : Result (Unit {0}) LineFault) (s : Status) → IsStatusOf r s → WritesText a b f h r (faces_text g) → IsAnswer Faces g a b f h s
-answered g a b f h (Ok done) s e w = let P : Status → Type 0 = IsAnswer Faces g a b f h in subst P (sym e) record { text = faces_text g; is = refl; all = w.ok }
-answered g a b f h (Err line.Write) s e w = let P : Status → Type 0 = IsAnswer Faces g a b f h in subst P (sym e) (record { text = faces_text g; is = refl; prefix = w.err }, w.cause refl)
-answered g a b f h (Err line.Memory) s e w = let P : Status → Type 0 = IsAnswer Faces g a b f h in subst P (sym e) record { text = faces_text g; is = refl; prefix = w.err }
+pub faces_answer : (g : Shape) (a b : Option (List ℕ)) (f h : ℕ) (r : Result (Unit {0}) LineFault) → WritesText a b f h r (faces_text g)
+    → IsAnswer faces_room g (record { before = a; after = b }) (record { before = f; after = h }) (status_of_lines r)
+faces_answer g a b f h (Ok done) w = record { text = faces_text g; is = refl; all = w.ok }
+faces_answer g a b f h (Err line.Write) w = (record { text = faces_text g; is = refl; prefix = w.err }, w.cause refl)
+faces_answer g a b f h (Err line.Memory) w = record { text = faces_text g; is = refl; prefix = w.err }
 
-module _ (task : Task) (g : Shape) (left left' : Option (List ℕ)) (source source' sink sink' : ℕ) (a b : Option (List ℕ)) (read : IsReadInput left left' g) where
-  pub answer_cause : (s : Status) → IsAnswer task g a b sink sink' s → HasTaskCause task left left' source source' sink sink' s
-  answer_cause Done h = (g, read)
-  answer_cause (Overflow choice step number) h = (g, read, by task h.is)
-    where
-      by : (t : Task) → IsWideEnd t choice step number g h.text → IsTooWide t choice step number g
-      by (Classes push stars width) w = w.0
-      by Faces w = absurd w
-  answer_cause (Limit face) h = (g, read, by task h.is)
-    where
-      by : (t : Task) → IsFarEnd t face g h.text → HasTooMany t face g
-      by (Classes push stars width) w = (w.0, w.1)
-      by Faces w = absurd w
-  answer_cause (Refused refusal) h = absurd h
-  answer_cause Memory h = tt
-  answer_cause WriteFault h = h.1
-  answer_cause ReadFault h = absurd h
-  answer_cause Usage h = absurd h
+-- an input was read, and answered
+pub answered : (r : Room) (i : r.Input) (e : Edges) (s : Status) → IsReadInput r e i → IsAnswer r i e.taken e.write_faults s → IsAnswered r e s
+answered r i e Done read h = record { cause = (i, read); text = record { input = i; read = read; takes = h } }
+answered r i e (Overflow choice step number) read h = record { cause = (i, read, h.is.0); text = record { input = i; read = read; takes = h } }
+answered r i e (Limit face) read h = record { cause = (i, h.is.0, read, h.is.1); text = record { input = i; read = read; takes = h } }
+answered r i e (Refused refusal) read h = absurd h
+answered r i e Memory read h = record { cause = tt; text = inr record { input = i; read = read; takes = h } }
+answered r i e WriteFault read h = record { cause = h.1; text = record { input = i; read = read; takes = h.0 } }
+answered r i e ReadFault read h = absurd h
+answered r i e Usage read h = absurd h
 
-  pub answer_written : (s : Status) → IsAnswer task g a b sink sink' s → HasWritten task left left' a b s
-  answer_written Done h = record { input = g; read = read; takes = h }
-  answer_written (Overflow choice step number) h = record { input = g; read = read; takes = h }
-  answer_written (Limit face) h = record { input = g; read = read; takes = h }
-  answer_written (Refused refusal) h = absurd h
-  answer_written Memory h = inr record { input = g; read = read; takes = h }
-  answer_written WriteFault h = record { input = g; read = read; takes = h.0 }
-  answer_written ReadFault h = absurd h
-  answer_written Usage h = absurd h
+-- no pair was read, and nothing was written
+module _ (e : Edges) (kept : Keeps e.taken.before e.taken.after) where
+  pub classes_stopped : (o : Options) (s : Status) → IsReadStop e.left e.read_faults s → IsAnswered (classes_room o) e s
+  classes_stopped o (Refused (Size limit)) h = record { cause = (ap (λ n. Some n) (sym h.0), subst (λ (n : ℕ). Rattle.io_edge.specs.Reading.ReadsPast e.left.before e.left.after n) (sym h.0) h.1); text = kept }
+  classes_stopped o (Refused (Text fault)) h = record { cause = h; text = kept }
+  classes_stopped o (Refused (Pair fault)) h = record { cause = h; text = kept }
+  classes_stopped o (Refused (Points fault)) h = record { cause = h; text = kept }
+  classes_stopped o (Refused (Unready stage)) h = record { cause = h; text = kept }
+  classes_stopped o Memory h = record { cause = tt; text = inl kept }
+  classes_stopped o ReadFault h = record { cause = h; text = kept }
+  classes_stopped o Done h = absurd h
+  classes_stopped o Usage h = absurd h
+  classes_stopped o WriteFault h = absurd h
+  classes_stopped o (Overflow choice step number) h = absurd h
+  classes_stopped o (Limit face) h = absurd h
+
+  pub faces_stopped : (s : Status) → IsReadStop e.left e.read_faults s → IsAnswered faces_room e s
+  faces_stopped (Refused (Size limit)) h = record { cause = (ap (λ n. Some n) (sym h.0), subst (λ (n : ℕ). Rattle.io_edge.specs.Reading.ReadsPast e.left.before e.left.after n) (sym h.0) h.1); text = kept }
+  faces_stopped (Refused (Text fault)) h = record { cause = h; text = kept }
+  faces_stopped (Refused (Pair fault)) h = record { cause = h; text = kept }
+  faces_stopped (Refused (Points fault)) h = record { cause = h; text = kept }
+  faces_stopped (Refused (Unready stage)) h = record { cause = h; text = kept }
+  faces_stopped Memory h = record { cause = tt; text = inl kept }
+  faces_stopped ReadFault h = record { cause = h; text = kept }
+  faces_stopped Done h = absurd h
+  faces_stopped Usage h = absurd h
+  faces_stopped WriteFault h = absurd h
+  faces_stopped (Overflow choice step number) h = absurd h
+  faces_stopped (Limit face) h = absurd h
 
 -- a line that was written to its end, or to a fault of the sink, tells the message
-pub told : (a b : Option (List ℕ)) (f h : ℕ) (r : Result (Unit {0}) LineFault) (text : List ℕ) → IfErr r (λ e. e ≡ line.Write) → WritesText a b f h r text → TellsMessage a b f h text
+pub told : (a b : Option (List ℕ)) (f h : ℕ) (r : Result (Unit {0}) LineFault) (text : List ℕ) → IfErr r (λ e. e ≡ line.Write) → WritesText a b f h r text
+    → TellsMessage (record { before = a; after = b }) (record { before = f; after = h }) text
 told a b f h (Ok done) text e w = record { prefix = prefix_all a b text w.ok; whole = λ n. w.ok }
 told a b f h (Err d) text e w = record { prefix = w.err; whole = λ n. absurd (n (w.cause (ap (λ x. Err x) e))) }
+
+pub keeps_same : (a : Option (List ℕ)) → Keeps a a
+keeps_same None = tt
+keeps_same (Some xs) = refl

@@ -1,26 +1,23 @@
--- Where the input can be answered and no count of faults rose, all was done or memory ran out.
-use Rattle.std.proofs.Common.{◌≡◌, ◌∙◌, inl, inr, refl, sym, ap, subst, arith, ℕ, ◌-◌, ℤ, List, length, Some}
-use Rattle.std.specs.Prelude.{Option, slice_index}
+-- Where a command can answer what it is given and no count of faults rose, all was done or memory ran out.
+use Rattle.std.proofs.Common.{◌≡◌, ◌∙◌, inl, inr, refl, sym, ap, subst, ℕ, ◌≤◌, ℤ, List, [], length, Some, None}
+use Rattle.std.specs.Prelude.{Option}
 use Rattle.io_edge.specs.Reading.{ReadsAll, ReadsPast}
-use Rattle.ntfe_model.specs.Shapes.{Shape}
-use Rattle.ntfe_model.specs.Words.{HasItem}
-use Rattle.ntfe_model.specs.Keys.{item_limit}
-use Rattle.ntfe_run.specs.Inputs.{IsInputOf, IsRefusalOf}
+use Rattle.ntfe_run.specs.Inputs.{IsRefusalOf}
 use Rattle.ntfe_words.specs.CommandLine.{Setting, Reading, number, AreOptions, IsDemo, IsMeaningOf, IsMeaning}
 use Rattle.ntfe_words.specs.declared.command.Command.{Command}
 use Rattle.ntfe_words.specs.declared.command.Command.TheVariants as command
 use Rattle.ntfe_words.specs.declared.command.Options.{Options}
-use Rattle.ntfe_run.specs.Tasks.{IsBuilt, IsTaskOf}
-use Rattle.ntfe_run.specs.Answers.{IsReadInput, IsReadRefusal, IsTooWide, HasTooMany, IsUnbuilt, IsWithinReach, HasAnswer, HasAnswerCause, IsComplete, input_limit}
+use Rattle.ntfe_run.specs.Edges.{Edges}
+use Rattle.ntfe_run.specs.Rooms.{Room, IsRead, IsReadInput, IsReadRefusal, IsGiven, HasCause}
+use Rattle.ntfe_run.specs.Commands.{room_of}
+use Rattle.ntfe_run.specs.Answers.{IsUnbuilt, HasAnswer, HasAnswerCause, IsComplete}
 use Rattle.ntfe_run.proofs.InputsFixed.{read_fixed, not_past, input_fixed, not_refused}
-use Rattle.ntfe_run.specs.declared.task.Task.{Task}
-use Rattle.ntfe_run.specs.declared.task.Task.TheVariants.{Classes, Faces}
 use Rattle.ntfe_run.specs.declared.status.Refusal.{Refusal}
 use Rattle.ntfe_run.specs.declared.status.Refusal.TheVariants.{Size, Text, Pair, Points, Unready}
 use Rattle.ntfe_run.specs.declared.status.Status.{Status}
 use Rattle.ntfe_run.specs.declared.status.Status.TheVariants.{Done, Usage, Refused, Overflow, Limit, Memory, ReadFault, WriteFault}
 
--- ---- words mean one command, and one task is done for it
+-- ---- words mean one command
 
 options_fixed : (settings : List Setting) (o p : Options) → AreOptions settings o → AreOptions settings p → o ≡ p
 options_fixed settings o p h k =
@@ -60,74 +57,70 @@ meaning_fixed words c d h k =
     let e : h.read ≡ k.read = cc (h.reads, k.reads) in
     reading_fixed k.read c d (subst (λ (r : Reading). IsMeaningOf r c) e h.means) k.means
 
-task_fixed : (c : Command) (t u : Task) → IsTaskOf c t → IsTaskOf c u → t ≡ u
-task_fixed (command.Classes o) (Classes push stars width) (Classes other others wide) h k = (let d = h.1 ∙ sym k.1 in let e = h.2 ∙ sym k.2 in let f = h.3 ∙ sym k.3 in λ i. Classes (d i) (e i) (f i))
-task_fixed (command.Classes o) (Classes push stars width) Faces h k = absurd k
-task_fixed (command.Classes o) Faces u h k = absurd h
-task_fixed (command.Resume o) t u h k = absurd h
-task_fixed command.Faces (Classes push stars width) u h k = absurd h
-task_fixed command.Faces Faces (Classes push stars width) h k = absurd k
-task_fixed command.Faces Faces Faces h k = refl
-task_fixed (command.Demo n workers width) t u h k = absurd h
+-- ---- the rooms: bytes hold one input, or are refused
 
-is_built : (c : Command) (t : Task) → IsTaskOf c t → IsBuilt c
-is_built (command.Classes o) (Classes push stars width) h = h.0
-is_built (command.Classes o) Faces h = absurd h
-is_built (command.Resume o) t h = absurd h
-is_built command.Faces t h = tt
-is_built (command.Demo n workers width) t h = absurd h
+pub holds_once : (c : Command) (bytes : List ℕ) (i j : (room_of c).Input) → (room_of c).Holds bytes i → (room_of c).Holds bytes j → i ≡ j
+holds_once (command.Classes o) bytes i j h k = input_fixed bytes i j h k
+holds_once (command.Resume o) bytes i j h k = absurd h
+holds_once command.Faces bytes i j h k = input_fixed bytes i j h k
+holds_once (command.Demo n workers width) bytes i j h k = absurd h
 
--- ---- within reach nothing stops a task
+pub not_refused_too : (c : Command) (bytes : List ℕ) (i : (room_of c).Input) (refusal : Refusal) → (room_of c).Holds bytes i → (room_of c).Refuses bytes refusal → ⊥
+not_refused_too (command.Classes o) bytes i refusal h k = not_refused bytes i refusal h k
+not_refused_too (command.Resume o) bytes i refusal h k = h
+not_refused_too command.Faces bytes i refusal h k = not_refused bytes i refusal h k
+not_refused_too (command.Demo n workers width) bytes i refusal h k = h
 
-not_too_wide : (task : Task) (g : Shape) (choice : List ℕ) (step : ℕ) (number : ℤ) → IsWithinReach task g → IsTooWide task choice step number g → ⊥
-not_too_wide (Classes push stars width) g choice step number r w = r.0 choice step number w.items w.wide
-not_too_wide Faces g choice step number r w = w
+module _ (e : Edges) where
+  -- what was read is what is given
+  from_read : (limit : Option ℕ) (bytes : List ℕ) (P : List ℕ → Type 0) → IsGiven limit e bytes → IsRead limit e P → P bytes
+  from_read None bytes P given (untouched, p) = subst P (sym given) p
+  from_read (Some limit) bytes P given (own, reads, p) =
+      subst P (read_fixed bytes own e.left.after limit (subst (λ (l : Option (List ℕ)). ReadsAll l e.left.after own limit) given.0 reads)) p
 
-not_too_many : (task : Task) (g : Shape) (face : ℕ) → IsWithinReach task g → HasTooMany task face g → ⊥
-not_too_many (Classes push stars width) g face r (key, m) =
-    let e = m.ends_at in
-    let at : slice_index key face ≡ item_limit g = (let q : face ≡ length key - 1 = omega (arith, e) in ap (λ i. slice_index key i) q ∙ m.far.0) in
-    r.1 face (subst (HasItem g face) at (m.far.1 face (omega (arith, e))))
-not_too_many Faces g face r h = h
+  not_too_long : (limit : Option ℕ) (bytes : List ℕ) (most : ℕ) → limit ≡ Some most → IsGiven limit e bytes → ReadsPast e.left.before e.left.after most → ⊥
+  not_too_long limit bytes most at given past =
+      let g = subst (λ (l : Option ℕ). IsGiven l e bytes) at given in not_past bytes e.left.after most g.1 (subst (λ (l : Option (List ℕ)). ReadsPast l e.left.after most) g.0 past)
 
-module _ (words : List (List ℕ)) (left left' : Option (List ℕ)) (a : HasAnswer words left) where
-  own_bytes : (bytes : List ℕ) → ReadsAll left left' bytes input_limit → bytes ≡ a.bytes
-  own_bytes bytes r = read_fixed a.bytes bytes left' input_limit (subst (λ (l : Option (List ℕ)). ReadsAll l left' bytes input_limit) a.holds r)
+module _ (words : List (List ℕ)) (e : Edges) (a : HasAnswer words e) where
+  abbrev own : Room
+  own = room_of a.asked
 
-  no_refusal_of : (refusal : Refusal) (bytes : List ℕ) → ReadsAll left left' bytes input_limit → IsRefusalOf bytes refusal → ⊥
-  no_refusal_of refusal bytes r c = not_refused a.bytes a.input refusal a.is (subst (λ (bs : List ℕ). IsRefusalOf bs refusal) (own_bytes bytes r) c)
+  no_refusal_of : (refusal : Refusal) → IsRead own.limit e (λ bytes. own.Refuses bytes refusal) → ⊥
+  no_refusal_of refusal r = not_refused_too a.asked a.can.bytes a.can.input refusal a.can.holds (from_read e own.limit a.can.bytes (λ bytes. own.Refuses bytes refusal) a.can.given r)
 
-  no_refusal : (refusal : Refusal) → IsReadRefusal left left' refusal → ⊥
-  no_refusal (Size limit) r = not_past a.bytes left' input_limit a.few (subst (λ (l : Option (List ℕ)). ReadsPast l left' input_limit) a.holds r.1)
-  no_refusal (Text fault) r = no_refusal_of (Text fault) r.bytes r.reads r.holds
-  no_refusal (Pair fault) r = no_refusal_of (Pair fault) r.bytes r.reads r.holds
-  no_refusal (Points fault) r = no_refusal_of (Points fault) r.bytes r.reads r.holds
-  no_refusal (Unready stage) r = no_refusal_of (Unready stage) r.bytes r.reads r.holds
+  no_refusal : (refusal : Refusal) → IsReadRefusal own e refusal → ⊥
+  no_refusal (Size limit) r = not_too_long e own.limit a.can.bytes limit r.0 a.can.given r.1
+  no_refusal (Text fault) r = no_refusal_of (Text fault) r
+  no_refusal (Pair fault) r = no_refusal_of (Pair fault) r
+  no_refusal (Points fault) r = no_refusal_of (Points fault) r
+  no_refusal (Unready stage) r = no_refusal_of (Unready stage) r
 
-  own_input : (g : Shape) → IsReadInput left left' g → a.input ≡ g
-  own_input g r = input_fixed a.bytes a.input g a.is (subst (λ (bs : List ℕ). IsInputOf bs g) (own_bytes r.bytes r.reads) r.holds)
+  own_input : (i : own.Input) → IsReadInput own e i → i ≡ a.can.input
+  own_input i r = holds_once a.asked a.can.bytes i a.can.input (from_read e own.limit a.can.bytes (λ bytes. own.Holds bytes i) a.can.given r) a.can.holds
 
-  within : (c : Command) (task : Task) (g : Shape) → IsMeaning words c → IsTaskOf c task → IsReadInput left left' g → IsWithinReach task g
-  within c task g m t r =
-      let same : IsTaskOf a.asked task = subst (λ (d : Command). IsTaskOf d task) (meaning_fixed words c a.asked m a.means) t in
-      subst (λ (h : Shape). IsWithinReach task h) (own_input g r) (subst (λ (u : Task). IsWithinReach u a.input) (task_fixed a.asked a.task task a.of same) a.reach)
+  own_cause : (c : Command) (status : Status) → IsMeaning words c → HasCause (room_of c) e status → HasCause own e status
+  own_cause c status m h = subst (λ (d : Command). HasCause (room_of d) e status) (meaning_fixed words c a.asked m a.means) h
+
+  not_wide : (choice : List ℕ) (step : ℕ) (number : ℤ) → HasCause own e (Overflow choice step number) → ⊥
+  not_wide choice step number (i, read, wide) = a.can.reach.narrow choice step number (subst (λ (j : own.Input). own.IsWide j choice step number) (own_input i read) wide)
+
+  not_far : (face : ℕ) → HasCause own e (Limit face) → ⊥
+  not_far face (i, key, read, far) = a.can.reach.near face key (subst (λ (j : own.Input). own.IsFar j face key) (own_input i read) far)
 
   not_unbuilt : IsUnbuilt words → ⊥
-  not_unbuilt (c, m, n) = n (subst IsBuilt (meaning_fixed words a.asked c a.means m) (is_built a.asked a.task a.of))
+  not_unbuilt (c, m, n) = n (subst (λ (d : Command). (room_of d).IsBuilt) (meaning_fixed words a.asked c a.means m) a.built)
 
-pub complete : (words : List (List ℕ)) (left left' : Option (List ℕ)) (source source' sink sink' : ℕ) (status : Status)
-    → HasAnswerCause words left left' source source' sink sink' status → IsComplete words left source source' sink sink' status
-complete words left left' source source' sink sink' Done c a n m = inl refl
-complete words left left' source source' sink sink' Memory c a n m = inr refl
-complete words left left' source source' sink sink' Usage c a n m = absurd (c.0 (a.asked, a.means))
-complete words left left' source source' sink sink' ReadFault c a n m = absurd (n c.4)
-complete words left left' source source' sink sink' WriteFault c a n m = absurd (m c.4)
-complete words left left' source source' sink sink' (Overflow choice step number) (c, task, means, of, (g, read, wide)) a n m =
-    absurd (not_too_wide task g choice step number (within words left left' a c task g means of read) wide)
-complete words left left' source source' sink sink' (Limit face) (c, task, means, of, (g, read, many)) a n m =
-    absurd (not_too_many task g face (within words left left' a c task g means of read) many)
-complete words left left' source source' sink sink' (Refused (Size limit)) c a n m = absurd (no_refusal words left left' a (Size limit) c.4)
-complete words left left' source source' sink sink' (Refused (Text fault)) c a n m = absurd (no_refusal words left left' a (Text fault) c.4)
-complete words left left' source source' sink sink' (Refused (Pair fault)) c a n m = absurd (no_refusal words left left' a (Pair fault) c.4)
-complete words left left' source source' sink sink' (Refused (Points fault)) c a n m = absurd (no_refusal words left left' a (Points fault) c.4)
-complete words left left' source source' sink sink' (Refused (Unready stage)) c a n m = absurd (not_unbuilt words left left' a c.1)
+pub complete : (words : List (List ℕ)) (e : Edges) (status : Status) → HasAnswerCause words e status → IsComplete words e status
+complete words e Done c a n m = inl refl
+complete words e Memory c a n m = inr refl
+complete words e Usage c a n m = absurd (c.0 (a.asked, a.means))
+complete words e ReadFault (c, means, k) a n m = absurd (n k)
+complete words e WriteFault (c, means, k) a n m = absurd (m k)
+complete words e (Overflow choice step number) (c, means, k) a n m = absurd (not_wide words e a choice step number (own_cause words e a c (Overflow choice step number) means k))
+complete words e (Limit face) (c, means, k) a n m = absurd (not_far words e a face (own_cause words e a c (Limit face) means k))
+complete words e (Refused (Size limit)) (c, means, k) a n m = absurd (no_refusal words e a (Size limit) (own_cause words e a c (Refused (Size limit)) means k))
+complete words e (Refused (Text fault)) (c, means, k) a n m = absurd (no_refusal words e a (Text fault) (own_cause words e a c (Refused (Text fault)) means k))
+complete words e (Refused (Pair fault)) (c, means, k) a n m = absurd (no_refusal words e a (Pair fault) (own_cause words e a c (Refused (Pair fault)) means k))
+complete words e (Refused (Points fault)) (c, means, k) a n m = absurd (no_refusal words e a (Points fault) (own_cause words e a c (Refused (Points fault)) means k))
+complete words e (Refused (Unready stage)) c a n m = absurd (not_unbuilt words e a c.1)

@@ -1,5 +1,5 @@
 -- From the text of a run to the headline: extendable choices are those that fine regular star triangulations induce.
-use Rattle.std.proofs.Common.{◌≡◌, ◌∙◌, refl, sym, ap, subst, Bool, true, false, cond, ℕ, ℤ, List, length, Some, None}
+use Rattle.std.proofs.Common.{◌≡◌, ◌∙◌, refl, sym, ap, subst, inl, inr, Bool, true, false, cond, ℕ, ℤ, List, [], length, Some, None}
 use Rattle.std.specs.Prelude.{Option}
 use Rattle.ntfe_model.specs.Lists.{IsBelow}
 use Rattle.ntfe_model.specs.Shapes.{Shape, IsShape}
@@ -10,9 +10,11 @@ use Rattle.ntfe_model.proofs.Orders.{below_once}
 use Rattle.ntfe_words.specs.CommandLine.{IsMeaning}
 use Rattle.ntfe_words.specs.declared.command.Command.{Command}
 use Rattle.ntfe_words.specs.declared.command.Command.TheVariants as command
-use Rattle.ntfe_words.specs.declared.command.Options.{Options}
-use Rattle.ntfe_run.specs.Answers.{TakesAll, IsAnswerText, HasRunText, form_of_options}
-use Rattle.ntfe_run.specs.Headline.{IsInducedBlock, IsHeadlineText, HasHeadline}
+use Rattle.ntfe_run.specs.Edges.{Edges}
+use Rattle.ntfe_run.specs.Rooms.{IsRead, TakesAll}
+use Rattle.ntfe_run.specs.Commands.{room_of, form_of_options}
+use Rattle.ntfe_run.specs.Answers.{HasRunText, HasHeadline}
+use Rattle.ntfe_run.specs.Headline.{IsInducedBlock, IsHeadlineText}
 use Rattle.ntfe_run.specs.declared.status.Status.{Status}
 use Rattle.ntfe_run.specs.declared.status.Status.TheVariants.{Done, Usage, Refused, Overflow, Limit, Memory, ReadFault, WriteFault}
 use Rattle.ntfe_run.proofs.Completeness.{meaning_fixed}
@@ -67,21 +69,38 @@ module _ (g : Shape) (s : IsShape g) (form : Form) where
     is = h.is;
   }
 
-module _ (words : List (List ℕ)) (left left' taken taken' : Option (List ℕ)) where
-  done : HasRunText words left left' taken taken' Done → HasHeadline words left left' taken taken' Done
-  done (c, m, h) o n e =
-      let a : TakesAll (IsAnswerText (command.Classes o)) left left' taken taken' = subst (λ (d : Command). TakesAll (IsAnswerText d) left left' taken taken') (meaning_fixed words c (command.Classes o) m n) h in
-      record {
-        input = a.input;
-        read = a.read;
-        takes = record {
-          text = a.takes.text;
-          is = headline_text a.input a.read.holds.shape (form_of_options o) a.takes.text (subst (λ (l : Option ℕ). IsRunText a.input (form_of_options o) nothing_kept l a.takes.text) e a.takes.is);
-          all = a.takes.all;
-        };
-      }
+-- ---- of a run
 
-  pub headline : (status : Status) → HasRunText words left left' taken taken' status → HasHeadline words left left' taken taken' status
+none_some : {X : Type 0} (n : ℕ) → (let o : Option ℕ = None in o ≡ Some n) → X
+none_some n e = cc
+
+-- the whole text of a command has its headline
+room_headline : (c : Command) (bytes : List ℕ) (i : (room_of c).Input) (text : List ℕ) → (room_of c).Holds bytes i → (room_of c).IsText i text → (room_of c).IsHeadline i text
+room_headline (command.Classes o) bytes g text holds (inl run) =
+    λ none. headline_text g holds.shape (form_of_options o) text (subst (λ (l : Option ℕ). IsRunText g (form_of_options o) nothing_kept l text) none run)
+room_headline (command.Classes o) bytes g text holds (inr due) = λ none. let e : None ≡ Some due.limit = sym none ∙ due.limited in none_some due.limit e
+room_headline (command.Resume o) bytes i text holds is = tt
+room_headline command.Faces bytes g text holds is = tt
+room_headline (command.Demo n workers width) bytes i text holds is = tt
+
+-- what was read has some bytes
+pub some_read : (limit : Option ℕ) (e : Edges) (P : List ℕ → Type 0) → IsRead limit e P → (bytes : List ℕ) × P bytes
+some_read None e P r = ([], r.1)
+some_read (Some limit) e P r = (r.0, r.2)
+
+module _ (words : List (List ℕ)) (e : Edges) where
+  done : HasRunText words e Done → HasHeadline words e Done
+  done (c, m, h) d n = subst (λ (x : Command). TakesAll (room_of x) (room_of x).IsHeadline e) (meaning_fixed words c d m n) record {
+    input = h.input;
+    read = h.read;
+    takes = record {
+      text = h.takes.text;
+      is = (let held = some_read (room_of c).limit e (λ bytes. (room_of c).Holds bytes h.input) h.read in room_headline c held.0 h.input h.takes.text held.1 h.takes.is);
+      all = h.takes.all;
+    };
+  }
+
+  pub headline : (status : Status) → HasRunText words e status → HasHeadline words e status
   headline Done h = done h
   headline Usage h = tt
   headline (Refused refusal) h = tt

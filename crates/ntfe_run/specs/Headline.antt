@@ -1,17 +1,11 @@
 -- The headline: a listing that comes to its end lists exactly the choices that fine regular star triangulations induce.
-use Rattle.std.specs.Prelude.{◌≡◌, ℕ, cond, List, Option, Some, None, length, ⊤}
+use Rattle.std.specs.Prelude.{◌≡◌, ℕ, cond, List, Some, None, length}
 use Rattle.ntfe_model.specs.Lists.{IsListing, IsBelow}
 use Rattle.ntfe_model.specs.Shapes.{Shape}
 use Rattle.ntfe_model.specs.Choices.{Extends}
 use Rattle.ntfe_model.specs.Keys.{AreHeightsOf}
 use Rattle.ntfe_model.specs.Stars.{IsStar, IsFrst, IsInduced, Induces, order_of}
 use Rattle.ntfe_model.specs.RunText.{Form, Block, text_without_limit, nothing_kept}
-use Rattle.ntfe_words.specs.CommandLine.{IsMeaning}
-use Rattle.ntfe_words.specs.declared.command.Command.TheVariants as command
-use Rattle.ntfe_words.specs.declared.command.Options.{Options}
-use Rattle.ntfe_run.specs.Answers.{TakesAll, form_of_options}
-use Rattle.ntfe_run.specs.declared.status.Status.{Status}
-use Rattle.ntfe_run.specs.declared.status.Status.TheVariants.{Done}
 
 -- the block of a choice that some fine regular star triangulation induces. Its heights are those of the stated solver, and extend the choice;
 -- the star of these heights and the form's order of pushing is such a triangulation, and is shown where stars are written
@@ -30,9 +24,3 @@ pub record IsHeadlineText (form : Form) (g : Shape) (text : List ℕ) : Type 0 w
   pub blocks : List Block
   pub are : IsListing (λ b c. IsBelow b.choice c.choice) (IsInducedBlock g form) blocks
   pub is : text ≡ text_without_limit g.pair form nothing_kept blocks
-
--- a listing without a limit that comes to its end has read a pair and written this text
-abbrev pub HasHeadline : List (List ℕ) → Option (List ℕ) → Option (List ℕ) → Option (List ℕ) → Option (List ℕ) → Status → Type 0
-HasHeadline words left left' taken taken' Done =
-    (o : Options) → IsMeaning words (command.Classes o) → o.limit ≡ None → TakesAll (IsHeadlineText (form_of_options o)) left left' taken taken'
-HasHeadline words left left' taken taken' status = ⊤

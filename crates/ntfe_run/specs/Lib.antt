@@ -1,11 +1,10 @@
+pub mod Edges
+pub mod Rooms
+pub mod Commands
 pub mod Answers
-pub mod Codes
+pub mod Headline
 pub mod Inputs
+pub mod Codes
 pub mod Messages
 pub mod Parts
-pub mod Forms
-pub mod Tasks
-pub mod Listed
-pub mod Halts
-pub mod Probing
-pub mod Headline
+pub mod Statuses

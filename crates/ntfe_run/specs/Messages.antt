@@ -3,6 +3,7 @@ use Rattle.std.specs.Prelude.{ℕ, ℤ, true, false, List, [], ◌++◌, codes, 
 use Rattle.std.specs.Fmt.{signed_decimal}
 use Rattle.std.specs.Io.KnownBytes.{Appends}
 use Rattle.io_edge.specs.Causes.{Rose, AppendsPrefix}
+use Rattle.io_edge.specs.Changes.{Change}
 use Rattle.ntfe_model.specs.RunText.{spaced}
 use Rattle.pair_text.specs.declared.fault.TextFault.{TextFault}
 use Rattle.pair_text.specs.declared.fault.TextFault.TheVariants as text
@@ -87,6 +88,6 @@ message_line Done = []
 message_line status = codes "ntfe: " ++ (answer_message status ++ codes "\n")
 
 -- A prefix of the line was taken, and all of it where the count of faults did not rise
-pub record TellsMessage (taken taken' : Option (List ℕ)) (faults faults' : ℕ) (text : List ℕ) : Type 0 where
-  pub prefix : AppendsPrefix taken taken' text
-  pub whole : ¬ (Rose faults faults') → Appends taken taken' text
+pub record TellsMessage (taken : Change (Option (List ℕ))) (faults : Change ℕ) (text : List ℕ) : Type 0 where
+  pub prefix : AppendsPrefix taken.before taken.after text
+  pub whole : ¬ (Rose faults.before faults.after) → Appends taken.before taken.after text

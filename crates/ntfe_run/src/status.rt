@@ -1,7 +1,9 @@
 //! How a run ends.
 ghost use Rattle.std.specs.Prelude.{◌≡◌};
 ghost use Rattle.ntfe_run.specs.Codes.{code_of};
+ghost use Rattle.ntfe_run.specs.Statuses.{status_of_lines as lines_status};
 
+use io_edge::LineFault;
 use lattice_points::PointFault;
 use ntfe_model::Choice;
 use pair_text::TextFault;
@@ -64,5 +66,16 @@ impl Status {
             Status::ReadFault => 7,
             Status::WriteFault => 8,
         }
+    }
+}
+
+/// The status after the writing of the last lines.
+pub fn status_of_lines(written: Result<(), LineFault>) -> Status
+    ensures { result ≡ lines_status written }
+{
+    match written {
+        Ok(()) => Status::Done,
+        Err(LineFault::Write) => Status::WriteFault,
+        Err(LineFault::Memory) => Status::Memory,
     }
 }

@@ -1,125 +1,17 @@
 //! The top call.
-ghost use Rattle.std.specs.Prelude.{◌≡◌, ◌≤◌, ◌+◌, map, string_bytes, IfOk, IfErr};
-ghost use Rattle.ntfe_run.specs.Answers.{IsReadInput, IsReadStop, HasTaskCause, HasWritten, IsAnswer, HasAnswerCause, HasRunText, IsComplete};
-ghost use Rattle.ntfe_run.specs.Halts.{IsStatusOf, status_of_listing as listing_status};
-ghost use Rattle.ntfe_run.specs.Headline.{HasHeadline};
-ghost use Rattle.ntfe_run.specs.Tasks.{HasWidth};
+ghost use Rattle.std.specs.Prelude.{◌≡◌, ◌≤◌, ◌+◌, map, string_bytes};
+ghost use Rattle.ntfe_run.specs.Answers.{HasAnswerCause, HasRunText, IsRun, HasFewTurns};
 ghost use Rattle.ntfe_run.specs.Messages.{message_line, TellsMessage};
 
-use crate::classes::write_classes;
-use crate::faces::write_faces;
-use crate::inputs::{Stop, geometry_of};
-use crate::listing::Halt;
+use crate::commands::classes::list_classes;
+use crate::commands::faces::list_faces;
 use crate::messages::write_message;
 use crate::status::{Refusal, Status};
-use crate::task::{Task, task_of};
-use io_edge::{Gate, LineFault, ReadStop, Sink, Source, read_all};
-use ntfe_model::{Geometry, Push};
-use ntfe_words::{WordFault, read_words};
+use io_edge::{Gate, Sink, Source};
+use ntfe_words::{Command, WordFault, read_words};
 use std::alloc::Global;
 use std::sync::Wait;
 use std::thread::Threads;
-
-/// The greatest number of bytes that are read.
-const INPUT_LIMIT: u32 = 65536;
-
-/// The pair that the source holds, with its points and two-faces, or the status that ends the run.
-fn read_geometry<S: Source>(alloc: Global, source: &mut S) -> Result<Geometry, Status>
-    ensures ok { IfOk result (IsReadInput (S.left source.old) (S.left source.new)) }
-    ensures err { IfErr result (IsReadStop (S.left source.old) (S.left source.new) (S.faults source.old) (S.faults source.new)) }
-    ensures later { S.faults source.old ≤ S.faults source.new }
-    ensures turns { S.turns source.new ≤ S.turns source.old + 65538 }
-{
-    let bytes = match read_all(alloc, source, INPUT_LIMIT as usize) {
-        Ok(bytes) => bytes,
-        Err(ReadStop::Size) => {
-            return Err(Status::Refused(Refusal::Size { limit: INPUT_LIMIT }));
-        }
-        Err(ReadStop::Read) => return Err(Status::ReadFault),
-        Err(ReadStop::Memory) => return Err(Status::Memory),
-    };
-    match geometry_of(alloc, bytes.as_slice()) {
-        Ok(geometry) => Ok(geometry),
-        Err(Stop::Refused(refusal)) => Err(Status::Refused(refusal)),
-        Err(Stop::Memory) => Err(Status::Memory),
-    }
-}
-
-/// The status after the writing of the points and two-faces.
-fn status_of(written: Result<(), LineFault>) -> Status
-    ensures { IsStatusOf written result }
-{
-    match written {
-        Ok(()) => Status::Done,
-        Err(LineFault::Write) => Status::WriteFault,
-        Err(LineFault::Memory) => Status::Memory,
-    }
-}
-
-/// The status after a listing of the classes.
-fn status_of_listing(listed: Result<(), Halt>) -> Status
-    ensures { result ≡ listing_status listed }
-{
-    match listed {
-        Ok(()) => Status::Done,
-        Err(Halt::Write) => Status::WriteFault,
-        Err(Halt::Memory) => Status::Memory,
-        Err(
-            Halt::Overflow {
-                choice,
-                step,
-                number,
-            },
-        ) => Status::Overflow {
-            choice,
-            step,
-            number,
-        },
-        Err(Halt::Limit { face }) => Status::Limit { face },
-    }
-}
-
-/// Writes the points and two-faces.
-fn list_faces<K: Sink>(alloc: Global, geometry: &Geometry, out: &mut K) -> Status
-    ensures { IsAnswer Task.Faces geometry.now (K.taken out.old) (K.taken out.new) (K.faults out.old) (K.faults out.new) result }
-{
-    status_of(write_faces(alloc, geometry, out))
-}
-
-/// Writes the classes.
-fn list_classes<K: Sink>(
-    alloc: Global,
-    push: Push,
-    stars: bool,
-    width: u8,
-    geometry: &Geometry,
-    out: &mut K,
-) -> Status
-    requires low { 1 ≤ width }
-    requires high { width ≤ 62 }
-    ensures { IsAnswer (Task.Classes push stars width) geometry.now (K.taken out.old) (K.taken out.new) (K.faults out.old) (K.faults out.new) result }
-{
-    status_of_listing(write_classes(alloc, push, stars, width, geometry, out))
-}
-
-/// Does the task on the source and writes its answer.
-fn do_task<S: Source, K: Sink>(alloc: Global, task: Task, source: &mut S, out: &mut K) -> Status
-    requires { HasWidth task }
-    ensures cause { HasTaskCause task (S.left source.old) (S.left source.new) (S.faults source.old) (S.faults source.new) (K.faults out.old) (K.faults out.new) result }
-    ensures written { HasWritten task (S.left source.old) (S.left source.new) (K.taken out.old) (K.taken out.new) result }
-    ensures turns { S.turns source.new ≤ S.turns source.old + 65538 }
-{
-    let geometry = match read_geometry(alloc, source) {
-        Ok(geometry) => geometry,
-        Err(status) => return status,
-    };
-    match task {
-        Task::Faces => list_faces(alloc, &geometry, out),
-        Task::Classes { push, stars, width } => {
-            list_classes(alloc, push, stars, width, &geometry, out)
-        }
-    }
-}
 
 /// Does what the words ask for.
 fn answer<S: Source, K: Sink>(
@@ -128,23 +20,37 @@ fn answer<S: Source, K: Sink>(
     source: &mut S,
     out: &mut K,
 ) -> Status
-    ensures cause { HasAnswerCause (map string_bytes words.now) (S.left source.old) (S.left source.new) (S.faults source.old) (S.faults source.new) (K.faults out.old) (K.faults out.new) result }
-    ensures text { HasRunText (map string_bytes words.now) (S.left source.old) (S.left source.new) (K.taken out.old) (K.taken out.new) result }
+    ensures cause { HasAnswerCause (map string_bytes words.now) (record {
+      left = record { before = S.left source.old; after = S.left source.new };
+      read_faults = record { before = S.faults source.old; after = S.faults source.new };
+      taken = record { before = K.taken out.old; after = K.taken out.new };
+      write_faults = record { before = K.faults out.old; after = K.faults out.new };
+    }) result }
+    ensures text { HasRunText (map string_bytes words.now) (record {
+      left = record { before = S.left source.old; after = S.left source.new };
+      read_faults = record { before = S.faults source.old; after = S.faults source.new };
+      taken = record { before = K.taken out.old; after = K.taken out.new };
+      write_faults = record { before = K.faults out.old; after = K.faults out.new };
+    }) result }
     ensures turns { S.turns source.new ≤ S.turns source.old + 65538 }
+    ensures few { HasFewTurns (map string_bytes words.now) (record { before = S.turns source.old; after = S.turns source.new }) }
 {
     let command = match read_words(alloc, words) {
         Ok(command) => command,
         Err(WordFault::Usage) => return Status::Usage,
         Err(WordFault::Memory) => return Status::Memory,
     };
-    match task_of(command) {
-        Some(task) => do_task(alloc, task, source, out),
-        None => Status::Refused(Refusal::Unready { stage: 6 }),
+    match command {
+        Command::Classes(options) => list_classes(alloc, &options, source, out),
+        Command::Faces => list_faces(alloc, source, out),
+        Command::Resume(_) | Command::Demo { .. } => {
+            Status::Refused(Refusal::Unready { stage: 6 })
+        }
     }
 }
 
-/// All that the program does, on one thread: reads the source, writes the answer to `out`, and tells of an answer other than `Done` on `err`.
-/// It waits for nobody.
+/// All that the program does, on one thread, as [`run`](crate::run) has it. It waits for nobody, and
+/// returns.
 pub fn run_alone<S: Source, K: Sink, E: Sink>(
     alloc: Global,
     words: &[String],
@@ -152,19 +58,45 @@ pub fn run_alone<S: Source, K: Sink, E: Sink>(
     out: &mut K,
     err: &mut E,
 ) -> Status
-    ensures cause { HasAnswerCause (map string_bytes words.now) (S.left source.old) (S.left source.new) (S.faults source.old) (S.faults source.new) (K.faults out.old) (K.faults out.new) result }
-    ensures text { HasRunText (map string_bytes words.now) (S.left source.old) (S.left source.new) (K.taken out.old) (K.taken out.new) result }
-    ensures headline { HasHeadline (map string_bytes words.now) (S.left source.old) (S.left source.new) (K.taken out.old) (K.taken out.new) result }
+    ensures answer { IsRun (map string_bytes words.now) (record {
+      left = record { before = S.left source.old; after = S.left source.new };
+      read_faults = record { before = S.faults source.old; after = S.faults source.new };
+      taken = record { before = K.taken out.old; after = K.taken out.new };
+      write_faults = record { before = K.faults out.old; after = K.faults out.new };
+    }) result }
     ensures turns { S.turns source.new ≤ S.turns source.old + 65538 }
-    ensures complete { IsComplete (map string_bytes words.now) (S.left source.old) (S.faults source.old) (S.faults source.new) (K.faults out.old) (K.faults out.new) result }
-    ensures message { TellsMessage (E.taken err.old) (E.taken err.new) (E.faults err.old) (E.faults err.new) (message_line result) }
+    ensures few { HasFewTurns (map string_bytes words.now) (record { before = S.turns source.old; after = S.turns source.new }) }
+    ensures message { TellsMessage (record { before = E.taken err.old; after = E.taken err.new }) (record { before = E.faults err.old; after = E.faults err.new }) (message_line result) }
 {
     let status = answer(alloc, words, source, out);
     let _ = write_message(&status, err);
     status
 }
 
-/// All that the program does. It may start threads and wait for them.
+/// All that the program does: it does what the words ask for on what the source gives, writes the
+/// answer to `out`, and tells of a status other than `Done` by one line on `err`. It may start threads
+/// and wait for them; its promises hold if it returns. The gate may stop workers at their turns.
+///
+/// The statuses, with the codes that [`Status::code`] gives them:
+///
+/// - `Done` (0): all of the answer was written. For `classes` without a limit these are the blocks of
+///   exactly the choices that fine regular star triangulations of the pair induce, each once and in
+///   order; with a limit, the first of them.
+/// - `Usage` (2): the words have no meaning. Nothing is read or written.
+/// - `Refused` (3): the input is refused, and nothing is written. The first refusal in this order is
+///   told: too many bytes, no pair text, no reflexive pair, too many points. A command that is not
+///   built is refused before anything is read.
+/// - `Overflow` (4): the solver's numbers reach the width on the named choice. All blocks below it are
+///   written, and no last line.
+/// - `Limit` (5): the named two-face has more items than are taken. All blocks below a key that comes
+///   to them are written, and no last line.
+/// - `Memory` (6): memory ran out. Nothing was written, or a prefix of the answer.
+/// - `ReadFault` (7): the source failed. Nothing is written.
+/// - `WriteFault` (8): `out` failed. It took a prefix of the answer.
+///
+/// Where the input can be answered and neither count of faults rises, the status is `Done` or
+/// `Memory`. Not promised: that memory suffices, that a waiting run returns, how long it takes, and
+/// anything of bytes that a source or sink does not tell, as a file or a pipe.
 pub fn run<R: Threads + Wait + Sync, S: Source, K: Sink, E: Sink, G: Gate + Sync>(
     _rt: &R,
     alloc: Global,
@@ -174,12 +106,15 @@ pub fn run<R: Threads + Wait + Sync, S: Source, K: Sink, E: Sink, G: Gate + Sync
     err: &mut E,
     _gate: &G,
 ) -> Status
-    ensures cause { HasAnswerCause (map string_bytes words.now) (S.left source.old) (S.left source.new) (S.faults source.old) (S.faults source.new) (K.faults out.old) (K.faults out.new) result }
-    ensures text { HasRunText (map string_bytes words.now) (S.left source.old) (S.left source.new) (K.taken out.old) (K.taken out.new) result }
-    ensures headline { HasHeadline (map string_bytes words.now) (S.left source.old) (S.left source.new) (K.taken out.old) (K.taken out.new) result }
+    ensures answer { IsRun (map string_bytes words.now) (record {
+      left = record { before = S.left source.old; after = S.left source.new };
+      read_faults = record { before = S.faults source.old; after = S.faults source.new };
+      taken = record { before = K.taken out.old; after = K.taken out.new };
+      write_faults = record { before = K.faults out.old; after = K.faults out.new };
+    }) result }
     ensures turns { S.turns source.new ≤ S.turns source.old + 65538 }
-    ensures complete { IsComplete (map string_bytes words.now) (S.left source.old) (S.faults source.old) (S.faults source.new) (K.faults out.old) (K.faults out.new) result }
-    ensures message { TellsMessage (E.taken err.old) (E.taken err.new) (E.faults err.old) (E.faults err.new) (message_line result) }
+    ensures few { HasFewTurns (map string_bytes words.now) (record { before = S.turns source.old; after = S.turns source.new }) }
+    ensures message { TellsMessage (record { before = E.taken err.old; after = E.taken err.new }) (record { before = E.faults err.old; after = E.faults err.new }) (message_line result) }
 {
     run_alone(alloc, words, source, out, err)
 }

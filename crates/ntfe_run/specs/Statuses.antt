@@ -1,0 +1,85 @@
+-- The statuses that the steps of a command come to.
+use Rattle.std.specs.Prelude.{◌≡◌, ℕ, List, Option, Result, Ok, Err, ⊤}
+use Rattle.io_edge.specs.Causes.{Rose}
+use Rattle.io_edge.specs.Changes.{Change}
+use Rattle.io_edge.specs.Reading.{ReadsAll, ReadsPast}
+use Rattle.io_edge.specs.declared.line_fault.LineFault.{LineFault}
+use Rattle.io_edge.specs.declared.line_fault.LineFault.TheVariants as line
+use Rattle.io_edge.specs.Lines.{WritesText}
+use Rattle.ntfe_model.specs.Shapes.{Shape}
+use Rattle.ntfe_model.specs.Keys.{MayOverflow, MayLimit}
+use Rattle.ntfe_model.specs.RunText.{Kept, IsStoppedText, head_due, end_line, limit_line}
+use Rattle.steal_workers.specs.Listings.{Listed}
+use Rattle.steal_workers.specs.declared.served.Served.{Served}
+use Rattle.steal_workers.specs.declared.served.Served.TheVariants as served
+use Rattle.ntfe_run.specs.Commands.{input_limit, IsListText, IsListBegun}
+use Rattle.ntfe_run.specs.Inputs.{IsInputOf, IsRefusalOf}
+use Rattle.ntfe_run.specs.Rooms.{Takes, TakesPrefix}
+use Rattle.ntfe_run.specs.declared.status.Refusal.{Refusal}
+use Rattle.ntfe_run.specs.declared.status.Refusal.TheVariants.{Size}
+use Rattle.ntfe_run.specs.declared.status.Status.{Status}
+use Rattle.ntfe_run.specs.declared.status.Status.TheVariants.{Done, Usage, Refused, Overflow, Limit, Memory, ReadFault, WriteFault}
+
+-- ---- the reading of a pair
+
+abbrev pub IsPairRead : Change (Option (List ℕ)) → Shape → Type 0
+IsPairRead left g = (bytes : List ℕ) × ReadsAll left.before left.after bytes input_limit × IsInputOf bytes g
+
+abbrev pub IsPairRefusal : Change (Option (List ℕ)) → Refusal → Type 0
+IsPairRefusal left (Size limit) = (limit ≡ input_limit) × ReadsPast left.before left.after input_limit
+IsPairRefusal left refusal = (bytes : List ℕ) × ReadsAll left.before left.after bytes input_limit × IsRefusalOf bytes refusal
+
+-- why no pair was read
+abbrev pub IsReadStop : Change (Option (List ℕ)) → Change ℕ → Status → Type 0
+IsReadStop left faults (Refused refusal) = IsPairRefusal left refusal
+IsReadStop left faults Memory = ⊤
+IsReadStop left faults ReadFault = Rose faults.before faults.after
+IsReadStop left faults status = ⊥
+
+-- ---- the writing of lines
+
+abbrev pub status_of_lines : Result (Unit {0}) LineFault → Status
+status_of_lines (Ok done) = Done
+status_of_lines (Err line.Write) = WriteFault
+status_of_lines (Err line.Memory) = Memory
+
+-- ---- a list of classes
+
+-- what is kept, where so many bytes are
+abbrev pub kept_of : Listed → ℕ → Kept
+kept_of l bytes = record { bytes = bytes; blocks = l.kept; last = l.start }
+
+-- the head, where it is due
+abbrev pub head_of : Listed → ℕ → List ℕ
+head_of l bytes = head_due l.geometry.pair l.form (kept_of l bytes)
+
+-- how the text of a list ends, and what was taken, where so many bytes are kept
+abbrev pub IsListEnd : Listed → ℕ → Change (Option (List ℕ)) → Change ℕ → Status → Type 0
+IsListEnd l bytes taken faults Done = Takes (IsListText l (kept_of l bytes)) taken
+IsListEnd l bytes taken faults Memory = TakesPrefix (IsListBegun l (kept_of l bytes)) taken
+IsListEnd l bytes taken faults WriteFault = TakesPrefix (IsListBegun l (kept_of l bytes)) taken × Rose faults.before faults.after
+IsListEnd l bytes taken faults (Overflow choice step number) =
+    Takes (λ text. MayOverflow l.geometry l.start l.width choice step number × IsStoppedText l.geometry l.form (kept_of l bytes) l.limit choice text) taken
+IsListEnd l bytes taken faults (Limit face) =
+    Takes (λ text. (key : List ℕ) × MayLimit l.geometry l.start l.width face key × IsStoppedText l.geometry l.form (kept_of l bytes) l.limit key text) taken
+IsListEnd l bytes taken faults status = ⊥
+
+-- the status of a list that ends without a last line
+abbrev pub status_of_end : Served → Status
+status_of_end (served.End count last) = Done
+status_of_end (served.Limit count last) = Done
+status_of_end (served.Wide choice step number) = Overflow choice step number
+status_of_end (served.Far face) = Limit face
+status_of_end served.WriteFault = WriteFault
+status_of_end served.Memory = Memory
+
+-- a line was written, and the status says how that went
+abbrev pub WritesLine : List ℕ → Change (Option (List ℕ)) → Change ℕ → Status → Type 0
+WritesLine text taken faults status =
+    (r : Result (Unit {0}) LineFault) × (status ≡ status_of_lines r) × WritesText taken.before taken.after faults.before faults.after r text
+
+-- the last line was written, where there is one
+abbrev pub WritesLast : Served → Change (Option (List ℕ)) → Change ℕ → Status → Type 0
+WritesLast (served.End count last) taken faults status = WritesLine (end_line count) taken faults status
+WritesLast (served.Limit count last) taken faults status = WritesLine (limit_line count) taken faults status
+WritesLast s taken faults status = (status ≡ status_of_end s) × (taken.after ≡ taken.before) × (faults.after ≡ faults.before)

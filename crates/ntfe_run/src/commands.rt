@@ -1,0 +1,4 @@
+//! The commands, each with one function and one contract.
+
+pub mod classes;
+pub mod faces;

@@ -1,0 +1,73 @@
+//! `classes`: the classes of a pair.
+ghost use Rattle.std.specs.Prelude.{◌≡◌, ◌≤◌, ◌+◌, IfOk};
+ghost use Rattle.steal_workers.specs.Forms.{IsFormOf};
+ghost use Rattle.ntfe_run.specs.Commands.{classes_room};
+ghost use Rattle.ntfe_run.specs.Rooms.{IsAnswer, IsAnswered};
+
+use crate::listing::write_list;
+use crate::reading::read_geometry;
+use crate::status::Status;
+use class_text::TextForm;
+use io_edge::{Sink, Source};
+use ntfe_model::Geometry;
+use ntfe_words::Options;
+use std::alloc::{AllocError, Global};
+use steal_workers::Listing;
+
+/// What the text depends on beside the classes, where nothing is kept.
+fn text_form(alloc: Global, options: &Options, geometry: &Geometry) -> Result<TextForm, AllocError>
+    ensures form { IfOk result (λ f. IsFormOf geometry.now f) }
+    ensures options { IfOk result (λ f. (f.push ≡ options.now.push) × (f.stars ≡ options.now.stars) × (f.kept ≡ 0)) }
+{
+    let pair = geometry.pair().try_clone(alloc)?;
+    Ok(TextForm {
+        pair,
+        push: options.push,
+        stars: options.stars,
+        points: geometry.points().len() as u32,
+        faces: geometry.faces().len() as u32,
+        kept: 0,
+    })
+}
+
+/// Writes the text of the classes.
+fn write_classes<K: Sink>(
+    alloc: Global,
+    options: &Options,
+    geometry: &Geometry,
+    out: &mut K,
+) -> Status
+    requires low { 1 ≤ options.now.width }
+    requires high { options.now.width ≤ 62 }
+    ensures { IsAnswer (classes_room options.now) geometry.now (record { before = K.taken out.old; after = K.taken out.new }) (record { before = K.faults out.old; after = K.faults out.new }) result }
+{
+    let Ok(form) = text_form(alloc, options, geometry) else {
+        return Status::Memory;
+    };
+    let start = None;
+    let listing = Listing::new(geometry, &form, &start, options.limit, options.width);
+    write_list(alloc, &listing, true, out)
+}
+
+/// Reads a pair, and writes the text of its classes. The width is from 1 to 62.
+pub fn list_classes<S: Source, K: Sink>(
+    alloc: Global,
+    options: &Options,
+    source: &mut S,
+    out: &mut K,
+) -> Status
+    requires low { 1 ≤ options.now.width }
+    requires high { options.now.width ≤ 62 }
+    ensures answer { IsAnswered (classes_room options.now) (record {
+      left = record { before = S.left source.old; after = S.left source.new };
+      read_faults = record { before = S.faults source.old; after = S.faults source.new };
+      taken = record { before = K.taken out.old; after = K.taken out.new };
+      write_faults = record { before = K.faults out.old; after = K.faults out.new };
+    }) result }
+    ensures turns { S.turns source.new ≤ S.turns source.old + 65538 }
+{
+    match read_geometry(alloc, source) {
+        Ok(geometry) => write_classes(alloc, options, &geometry, out),
+        Err(status) => status,
+    }
+}

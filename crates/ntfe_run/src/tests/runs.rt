@@ -1,0 +1,140 @@
+//! Whole runs.
+
+use crate::tests::pairs::{PYRAMID, SIMPLEX, SQUARES};
+use crate::{run, run_alone};
+use io_edge::{MemorySink, MemorySource, OpenGate, Sink, SliceSource, Source};
+use std::alloc::{AllocError, Global};
+use std::sync::Wait;
+use std::thread::Threads;
+
+/// What a run wrote, and how it ended.
+#[derive(Drop)]
+struct Outcome {
+    code: u8,
+    out: MemorySink,
+    err: MemorySink,
+}
+
+/// The words as the program is given them.
+fn owned(alloc: Global, words: &[&str]) -> Result<Vec<String>, AllocError> {
+    let mut all = Vec::new(alloc);
+    for word in words {
+        all.push(String::from_str(alloc, word)?)?;
+    }
+    Ok(all)
+}
+
+/// The exit status of a run.
+fn code_of<S: Source, K: Sink, E: Sink>(
+    alloc: Global,
+    words: &[&str],
+    source: &mut S,
+    out: &mut K,
+    err: &mut E,
+) -> Result<u8, AllocError> {
+    let words = owned(alloc, words)?;
+    Ok(run_alone(alloc, words.as_slice(), source, out, err).code())
+}
+
+/// Runs on text with ample room; `failing` is the number of the call of `out` that fails.
+fn outcome(alloc: Global, words: &[&str], text: &str, failing: u64) -> Result<Outcome, AllocError> {
+    let mut source = SliceSource {
+        bytes: text.as_bytes(),
+    };
+    let mut out = MemorySink::new(alloc, 100000, vec![in alloc; failing]?)?;
+    let mut err = MemorySink::new(alloc, 1000, Vec::new(alloc))?;
+    let code = code_of(alloc, words, &mut source, &mut out, &mut err)?;
+    Ok(Outcome { code, out, err })
+}
+
+/// The exit status of a run of `faces` on the simplex, where the source gives a byte at a time and its call of this number
+/// fails, with the number of bytes taken.
+fn faces_code(alloc: Global, failing: u64) -> Result<(u8, usize), AllocError> {
+    let bytes = Vec::from_slice(alloc, SIMPLEX.as_bytes())?;
+    let mut source = MemorySource::new(bytes, 1, vec![in alloc; failing]?);
+    let mut out = MemorySink::new(alloc, 9999, Vec::new(alloc))?;
+    let mut err = MemorySink::new(alloc, 999, Vec::new(alloc))?;
+    let code = code_of(alloc, &["faces"], &mut source, &mut out, &mut err)?;
+    Ok((code, out.bytes().len()))
+}
+
+#[test]
+fn the_first_class_with_its_star(rt: HostRuntime) -> Result<(), AllocError> {
+    let all = outcome(
+        rt.alloc(),
+        &["classes", "--stars", "--limit", "1"],
+        PYRAMID,
+        9999,
+    )?;
+    assert!(rt; all.code == 0);
+    assert!(rt; all.out.bytes().ends_with(b"simplex 3 5 6 7\nlimit 1\n"));
+    Ok(())
+}
+
+#[test]
+fn a_limit_that_is_not_reached(rt: HostRuntime) -> Result<(), AllocError> {
+    let all = outcome(rt.alloc(), &["classes", "--limit", "3"], PYRAMID, 9999)?;
+    assert!(rt;
+        all.out
+            .bytes()
+            .ends_with(b"heights 0 0 0 -1 0 0 0\nend 2\n")
+    );
+    Ok(())
+}
+
+#[test]
+fn a_sink_that_fails_at_its_third_call(rt: HostRuntime) -> Result<(), AllocError> {
+    let cut = outcome(rt.alloc(), &["classes"], SIMPLEX, 3)?;
+    assert!(rt; cut.code == 8);
+    assert!(rt; cut.out.bytes() == b"ntfe 1\nvertices 5\n1 0 0 0\n".as_slice());
+    Ok(())
+}
+
+#[test]
+fn a_source_of_single_bytes(rt: HostRuntime) -> Result<(), AllocError> {
+    assert!(rt; faces_code(rt.alloc(), 9999)? == (0, 212));
+    assert!(rt; faces_code(rt.alloc(), 5)? == (7, 0));
+    Ok(())
+}
+
+#[test]
+fn numbers_that_are_too_wide(rt: HostRuntime) -> Result<(), AllocError> {
+    let stopped = outcome(rt.alloc(), &["classes", "--width=1"], SQUARES, 9999)?;
+    assert!(rt; stopped.code == 4);
+    assert!(rt;
+        stopped
+            .err
+            .bytes()
+            .starts_with(b"ntfe: overflow at step 0 with -2 in choice 0 0 ")
+    );
+    assert!(rt; stopped.out.bytes().ends_with(b"1 0 1 0\npush up\n"));
+    Ok(())
+}
+
+#[test]
+fn what_is_not_built(rt: HostRuntime) -> Result<(), AllocError> {
+    let refused = outcome(rt.alloc(), &["resume"], "", 9999)?;
+    assert!(rt; refused.code == 3);
+    assert!(rt; refused.err.bytes() == b"ntfe: not built: stage 6\n".as_slice());
+    Ok(())
+}
+
+/// The exit status of a run of `faces` on the simplex that may start threads.
+fn threads_code<R: Threads + Wait + Sync + AllocGlobal>(rt: &R) -> Result<u8, AllocError> {
+    let alloc = rt.alloc();
+    let words = owned(alloc, &["faces"])?;
+    let mut source = SliceSource {
+        bytes: SIMPLEX.as_bytes(),
+    };
+    let mut out = MemorySink::new(alloc, 9999, Vec::new(alloc))?;
+    let mut err = MemorySink::new(alloc, 999, Vec::new(alloc))?;
+    let words = words.as_slice();
+    let status = run(rt, alloc, words, &mut source, &mut out, &mut err, &OpenGate);
+    Ok(status.code())
+}
+
+#[test]
+fn a_run_that_may_start_threads(rt: HostRuntime) -> Result<(), AllocError> {
+    assert!(rt; threads_code(&rt)? == 0);
+    Ok(())
+}
