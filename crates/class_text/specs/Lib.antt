@@ -1,1 +1,5 @@
+pub mod Earlier
+pub mod Fields
 pub mod Forms
+pub mod NumberLines
+pub mod Readers

@@ -6,3 +6,4 @@ pub mod Pairs
 pub mod Unique
 pub mod Canonical
 pub mod Exact
+mod OutputLines

@@ -1,3 +1,4 @@
 pub mod Faults
 pub mod Caps
 pub mod Cursors
+pub mod Output

@@ -67,14 +67,14 @@ impl<'a> Lines<'a> {
 }
 
 /// Where the first line feed stands.
-fn line_end(bytes: &[u8]) -> Option<usize>
+pub fn line_end(bytes: &[u8]) -> Option<usize>
     ensures { result ≡ position (λ b. b == 10) bytes.now }
 {
     bytes.iter().position(|byte| *byte == b'\n')
 }
 
 /// All bytes but the first.
-fn without_first(bytes: &[u8]) -> &[u8]
+pub fn without_first(bytes: &[u8]) -> &[u8]
     ensures { result.now ≡ drop 1 bytes.now }
 {
     match bytes {
@@ -84,7 +84,7 @@ fn without_first(bytes: &[u8]) -> &[u8]
 }
 
 /// A line without the carriage return that ends it, if one does.
-fn without_return(line: &[u8]) -> &[u8]
+pub fn without_return(line: &[u8]) -> &[u8]
     ensures { result.now ≡ strip_carriage_return line.now }
 {
     match line {

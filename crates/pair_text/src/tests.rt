@@ -104,3 +104,14 @@ fn round_trip(rt: HostRuntime) -> Result<(), Fail> {
     assert_eq!(rt; out.as_slice(), wanted.as_slice());
     Ok(())
 }
+
+#[test]
+fn cut_at_output(rt: HostRuntime) -> Result<(), Fail> {
+    let Some((before, rest)) = split_at_output(b"output 5\n\toutput \r\nntfe 1\noutput\n") else {
+        return Err(Fail::new("a line `output`"));
+    };
+    assert_eq!(rt; before, b"output 5\n".as_slice());
+    assert_eq!(rt; rest, b"ntfe 1\noutput\n".as_slice());
+    assert!(rt; split_at_output(b"outputs\n# output\n").is_none());
+    Ok(())
+}
