@@ -35,7 +35,7 @@ at_end : (xs : List (List ℕ)) (y : List ℕ) (ys : List (List ℕ)) → slice_
 at_end [] y ys = refl
 at_end (x ∷ xs) y ys = at_end xs y ys
 
-before_end : (xs ys : List (List ℕ)) (i : ℕ) → i < length xs → slice_get (xs ++ ys) i ≡ slice_get xs i
+pub before_end : (xs ys : List (List ℕ)) (i : ℕ) → i < length xs → slice_get (xs ++ ys) i ≡ slice_get xs i
 before_end [] ys i h = absurd (omega arith)
 before_end (x ∷ xs) ys zero h = refl
 before_end (x ∷ xs) ys (suc i) h = before_end xs ys i (omega arith)

@@ -1,6 +1,6 @@
 //! What is kept of an earlier output.
-ghost use Rattle.std.specs.Prelude.{◌≡◌, ◌+◌, ◌<◌, ◌≤◌, ◌^◌, length, IfOk, IfErr, MatchOption};
-ghost use Rattle.ntfe_model.specs.RunText.{head_text};
+ghost use Rattle.std.specs.Prelude.{◌≡◌, ◌≢◌, ◌⊎◌, ◌+◌, ◌<◌, ◌≤◌, ◌^◌, length, IfOk, IfErr, MatchOption, MatchResult};
+ghost use Rattle.ntfe_model.specs.RunText.{Kept, head_text};
 ghost use Rattle.ntfe_model.specs.Earlier.{IsKeptOf, after_head};
 ghost use Rattle.class_text.specs.Forms.{form_of, layout_of};
 ghost use Rattle.class_text.specs.Earlier.{kept_of, HasCause, IsShorter, IsBehind, IsDifferent, IsReadTo, IsRefusedAt};
@@ -96,14 +96,8 @@ fn read_body(
     Ok(reader)
 }
 
-/// Reads what an earlier run wrote, of at most 4,294,967,295 bytes, cut anywhere. Kept is the whole head of this
-/// run with the whole blocks behind it; a last line is never kept. What follows the last line feed is a cut tail and no fault.
-///
-/// # Errors
-///
-/// `Head` where a whole line in the head's place differs from this run's, with the first such line; `Body` where the
-/// head's lines are right, with the first whole line behind them that is not allowed in its place.
-pub fn read_earlier(alloc: Global, form: &TextForm, bytes: &[u8]) -> Result<Earlier, EarlierFault>
+/// Reads what an earlier run wrote.
+fn read_text(alloc: Global, form: &TextForm, bytes: &[u8]) -> Result<Earlier, EarlierFault>
     requires { length bytes.now < 2 ^ 32 }
     ensures ok { IfOk result (λ e. IsKeptOf (layout_of form.now) bytes.now (kept_of e)) }
     ensures fault { IfErr result (HasCause (layout_of form.now) bytes.now) }
@@ -118,4 +112,21 @@ pub fn read_earlier(alloc: Global, form: &TextForm, bytes: &[u8]) -> Result<Earl
     };
     let reader = read_body(alloc, form, head.len() as u64, behind.lines, behind.rest)?;
     Ok(reader.into_earlier())
+}
+
+/// Reads what an earlier run wrote, of at most 4,294,967,295 bytes, cut anywhere. Kept is the whole head of this
+/// run with the whole blocks behind it; a last line is never kept. What follows the last line feed is a cut tail and no fault.
+///
+/// # Errors
+///
+/// `Head` where a whole line in the head's place differs from this run's, with the first such line; `Body` where the
+/// head's lines are right, with the first whole line behind them that is not allowed in its place.
+pub fn read_earlier(alloc: Global, form: &TextForm, bytes: &[u8]) -> Result<Earlier, EarlierFault>
+    requires { length bytes.now < 2 ^ 32 }
+    ensures ok { IfOk result (λ e. IsKeptOf (layout_of form.now) bytes.now (kept_of e)) }
+    ensures only { (kept : Kept) → IsKeptOf (layout_of form.now) bytes.now kept → MatchResult result (λ e. kept_of e ≡ kept) (λ f. f ≡ EarlierFault.Memory) }
+    ensures fault { IfErr result (HasCause (layout_of form.now) bytes.now) }
+    ensures exact { (fault : EarlierFault) → fault ≢ EarlierFault.Memory → HasCause (layout_of form.now) bytes.now fault → MatchResult result (λ _. ⊥) (λ f. (f ≡ fault) ⊎ (f ≡ EarlierFault.Memory)) }
+{
+    read_text(alloc, form, bytes)
 }
