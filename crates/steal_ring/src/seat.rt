@@ -71,9 +71,6 @@ impl Seat {
 
     /// Takes the oldest key of the own deque. `None` only where the deque was empty at one moment of the call, or a
     /// count of the seat stands at 2^59. Takes no memory, and waits for no other thread.
-    ///
-    /// The clause says that the deque was empty as the rule of the deque says it, of this seat's own history: other
-    /// seats may have taken the rest.
     pub fn pop(&mut self) -> Option<Key>
         ensures some { IfSome result (λ key. self.new ≡ record self.old { popped = self.old.popped ++ key ∷ [] }) }
         ensures none { IfNone result ((self.new ≡ self.old) × (WasEmpty (history 1 self.old.put self.old.popped) ⊎ IsWorn self.old)) }
