@@ -37,7 +37,7 @@ fn code_of<S: Source, K: Sink, E: Sink>(
 }
 
 /// Runs on text with ample room; `failing` is the number of the call of `out` that fails.
-fn outcome(alloc: Global, words: &[&str], text: &str, failing: u64) -> Result<Outcome, AllocError> {
+fn run_on(alloc: Global, words: &[&str], text: &str, failing: u64) -> Result<Outcome, AllocError> {
     let mut source = SliceSource {
         bytes: text.as_bytes(),
     };
@@ -60,7 +60,7 @@ fn faces_code(alloc: Global, failing: u64) -> Result<(u8, usize), AllocError> {
 
 #[test]
 fn the_first_class_with_its_star(rt: HostRuntime) -> Result<(), AllocError> {
-    let all = outcome(
+    let all = run_on(
         rt.alloc(),
         &["classes", "--stars", "--limit", "1"],
         PYRAMID,
@@ -73,7 +73,7 @@ fn the_first_class_with_its_star(rt: HostRuntime) -> Result<(), AllocError> {
 
 #[test]
 fn a_limit_that_is_not_reached(rt: HostRuntime) -> Result<(), AllocError> {
-    let all = outcome(rt.alloc(), &["classes", "--limit", "3"], PYRAMID, 9999)?;
+    let all = run_on(rt.alloc(), &["classes", "--limit", "3"], PYRAMID, 9999)?;
     assert!(rt;
         all.out
             .bytes()
@@ -84,7 +84,7 @@ fn a_limit_that_is_not_reached(rt: HostRuntime) -> Result<(), AllocError> {
 
 #[test]
 fn a_sink_that_fails_at_its_third_call(rt: HostRuntime) -> Result<(), AllocError> {
-    let cut = outcome(rt.alloc(), &["classes"], SIMPLEX, 3)?;
+    let cut = run_on(rt.alloc(), &["classes"], SIMPLEX, 3)?;
     assert!(rt; cut.code == 8);
     assert!(rt; cut.out.bytes() == b"ntfe 1\nvertices 5\n1 0 0 0\n".as_slice());
     Ok(())
@@ -99,7 +99,7 @@ fn a_source_of_single_bytes(rt: HostRuntime) -> Result<(), AllocError> {
 
 #[test]
 fn numbers_that_are_too_wide(rt: HostRuntime) -> Result<(), AllocError> {
-    let stopped = outcome(rt.alloc(), &["classes", "--width=1"], SQUARES, 9999)?;
+    let stopped = run_on(rt.alloc(), &["classes", "--width=1"], SQUARES, 9999)?;
     assert!(rt; stopped.code == 4);
     assert!(rt;
         stopped
@@ -113,7 +113,7 @@ fn numbers_that_are_too_wide(rt: HostRuntime) -> Result<(), AllocError> {
 
 #[test]
 fn what_is_not_built(rt: HostRuntime) -> Result<(), AllocError> {
-    let refused = outcome(rt.alloc(), &["resume"], "", 9999)?;
+    let refused = run_on(rt.alloc(), &["resume"], "", 9999)?;
     assert!(rt; refused.code == 3);
     assert!(rt; refused.err.bytes() == b"ntfe: not built: stage 6\n".as_slice());
     Ok(())
