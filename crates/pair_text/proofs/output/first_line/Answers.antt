@@ -1,4 +1,4 @@
-use Rattle.std.proofs.Common.{◌≡◌, ◌+◌, List, ℕ, take, drop, sym, ap, ◌∙◌, arith}
+use Rattle.std.proofs.Common.{take, drop, ap, ◌∙◌}
 use Rattle.std.proofs.lemmas.List.{drop-drop}
 use Rattle.std.specs.List.{position_or_len}
 use Rattle.pair_text.proofs.Splitting.{is_feed, place_is}
