@@ -1,11 +1,9 @@
-//! Whole runs.
+//! Whole runs on one thread. The program itself calls `run`, and the cases are run on it.
 
+use crate::run_alone;
 use crate::tests::pairs::{PYRAMID, SIMPLEX, SQUARES};
-use crate::{run, run_alone};
-use io_edge::{MemorySink, MemorySource, OpenGate, Sink, SliceSource, Source};
+use io_edge::{MemorySink, MemorySource, Sink, SliceSource, Source};
 use std::alloc::{AllocError, Global};
-use std::sync::Wait;
-use std::thread::Threads;
 
 /// What a run wrote, and how it ended.
 #[derive(Drop)]
@@ -116,25 +114,5 @@ fn what_is_not_built(rt: HostRuntime) -> Result<(), AllocError> {
     let refused = run_on(rt.alloc(), &["resume"], "", 9999)?;
     assert!(rt; refused.code == 3);
     assert!(rt; refused.err.bytes() == b"ntfe: not built: stage 6\n".as_slice());
-    Ok(())
-}
-
-/// The exit status of a run of `faces` on the simplex that may start threads.
-fn threads_code<R: Threads + Wait + Sync + AllocGlobal>(rt: &R) -> Result<u8, AllocError> {
-    let alloc = rt.alloc();
-    let words = owned(alloc, &["faces"])?;
-    let mut source = SliceSource {
-        bytes: SIMPLEX.as_bytes(),
-    };
-    let mut out = MemorySink::new(alloc, 9999, Vec::new(alloc))?;
-    let mut err = MemorySink::new(alloc, 999, Vec::new(alloc))?;
-    let words = words.as_slice();
-    let status = run(rt, alloc, words, &mut source, &mut out, &mut err, &OpenGate);
-    Ok(status.code())
-}
-
-#[test]
-fn a_run_that_may_start_threads(rt: HostRuntime) -> Result<(), AllocError> {
-    assert!(rt; threads_code(&rt)? == 0);
     Ok(())
 }
