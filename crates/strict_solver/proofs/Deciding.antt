@@ -55,7 +55,7 @@ wider-sum [] (v ∷ vs) t l = absurd (omega arith)
 wider-sum (e ∷ es) [] t l = absurd (omega arith)
 wider-sum (e ∷ es) (v ∷ vs) t l = ap (λ z. e *ℤ v +ℤ z) (wider-sum es vs t (omega arith))
 
-wider-holds : (one t : ℤ) (vs : List ℤ) (z : ℕ) (r : Line) → length r.coefficients ≡ length vs → z < length vs → LineHolds one vs z r → LineHolds one (vs ++ t ∷ []) z (wider r)
+pub wider-holds : (one t : ℤ) (vs : List ℤ) (z : ℕ) (r : Line) → length r.coefficients ≡ length vs → z < length vs → LineHolds one vs z r → LineHolds one (vs ++ t ∷ []) z (wider r)
 wider-holds one t vs z r l h e = ap (λ v. r.d *ℤ v) (get_or_append_left vs (t ∷ []) (pos 0) z h) ∙ e ∙ ap (λ k. r.c *ℤ one +ℤ k) (sym (wider-sum r.coefficients vs t l))
 
 pub start-extends : (columns : ℕ) (rs : List (List ℤ)) (q : List ℤ) (one : ℤ) (vs : List ℤ) → AreRows columns (rs ++ q ∷ []) → length vs ≡ columns + length rs → Holds one vs (start_lines columns (length rs) rs)

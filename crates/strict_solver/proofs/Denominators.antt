@@ -11,10 +11,10 @@ pub gcd_of-is : (a b : ℕ) → IsGcd a b (gcd_of a b)
 unfolding gcd_of
 gcd_of-is a b = gcd_by-is b a b (omega arith)
 
-cancels : (k x y : ℕ) → 0 < k → k * x ≡ k * y → x ≡ y
+pub cancels : (k x y : ℕ) → 0 < k → k * x ≡ k * y → x ≡ y
 cancels k x y h e = grind arith
 
-quotient_of : (d n : ℕ) → d ∣ n → n ≡ d * (n / d)
+pub quotient_of : (d n : ℕ) → d ∣ n → n ≡ d * (n / d)
 quotient_of d n h = sym (mul-div_cancel' d h)
 
 mul_same : (a b c : ℕ) → a * b * c ≡ a * (b * c)

@@ -42,7 +42,7 @@ row_more (z ∷ r) zs = ap (λ ys. z ∷ ys) (row_more r zs)
 pub start-wider : (m n : ℕ) (r : List ℤ) → m ≡ suc n → start_line m r ≡ wider (start_line n r)
 start-wider m n r e = ap (λ k. start_line k r) e ∙ (λ i. record { d = pos 1; c = negsuc 0; coefficients = (ap (λ zs. r ++ zs) (zeros_more n) ∙ row_more r (replicate n (pos 0))) i })
 
-start-none : (columns n : ℕ) (rs : List (List ℤ)) (z : ℕ) → z < columns → get_or (start_lines columns n rs) z None ≡ None
+pub start-none : (columns n : ℕ) (rs : List (List ℤ)) (z : ℕ) → z < columns → get_or (start_lines columns n rs) z None ≡ None
 start-none zero n rs z l = absurd (omega arith)
 start-none (suc columns) n rs zero l = refl
 start-none (suc columns) n rs (suc z) l = start-none columns n rs z (omega arith)

@@ -110,7 +110,7 @@ module _ (q : List ℤ) (s : List (Option Line)) (l : Line) (w : IsTable s) (low
           ∙ h (length s) (wider l) (row-last s l)
           ∙ ap (λ k. l.c *ℤ one +ℤ k) (wider-sum l.coefficients vs t (f.count ∙ sym c))
 
-split-last : (n : ℕ) (vs : List ℤ) → length vs ≡ suc n → (ws : List ℤ) × (t : ℤ) × (vs ≡ ws ++ t ∷ []) × (length ws ≡ n)
+pub split-last : (n : ℕ) (vs : List ℤ) → length vs ≡ suc n → (ws : List ℤ) × (t : ℤ) × (vs ≡ ws ++ t ∷ []) × (length ws ≡ n)
 split-last n [] e = absurd (omega arith)
 split-last zero (v ∷ []) e = ([], v, refl, refl)
 split-last (suc n) (v ∷ []) e = absurd (omega arith)

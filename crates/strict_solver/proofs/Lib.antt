@@ -49,3 +49,13 @@ pub mod Joining
 pub mod Going
 pub mod LineOf
 pub mod Path
+pub mod Words
+pub mod PuttingIn
+pub mod SlackLines
+pub mod Standing
+pub mod StandingMoves
+pub mod StandingRows
+pub mod Exchanging
+pub mod Settling
+pub mod HeightsLine
+pub mod Stems

@@ -27,10 +27,10 @@ scale_step ls k = ap (scale_to ls) (let e : k + 1 ≡ suc k = omega arith in e)
 abbrev IsWhole : List (Option Line) → ℕ → ℕ → Type 0
 IsWhole ls k j = (i : ℕ) (r : Line) → i < k → get_or ls i None ≡ Some r → unsigned_abs r.d ∣ j * unsigned_abs r.c
 
-record IsLeastScale (ls : List (Option Line)) (k m : ℕ) : Type 0 where
-  positive : 0 < m
-  whole : (i : ℕ) (r : Line) → i < k → get_or ls i None ≡ Some r → unsigned_abs r.d ∣ m * unsigned_abs r.c
-  least : (j : ℕ) → ((i : ℕ) (r : Line) → i < k → get_or ls i None ≡ Some r → unsigned_abs r.d ∣ j * unsigned_abs r.c) → m ∣ j
+pub record IsLeastScale (ls : List (Option Line)) (k m : ℕ) : Type 0 where
+  pub positive : 0 < m
+  pub whole : (i : ℕ) (r : Line) → i < k → get_or ls i None ≡ Some r → unsigned_abs r.d ∣ m * unsigned_abs r.c
+  pub least : (j : ℕ) → ((i : ℕ) (r : Line) → i < k → get_or ls i None ≡ Some r → unsigned_abs r.d ∣ j * unsigned_abs r.c) → m ∣ j
 
 size_some : (z : ℤ) → pos 0 <ℤ z → 0 < unsigned_abs z
 size_some z h = omega (arith, ints)
@@ -38,7 +38,7 @@ size_some z h = omega (arith, ints)
 one_divides : (n : ℕ) → 1 ∣ n
 one_divides n = subst (λ z. 1 ∣ z) (let f : 1 * n ≡ n = omega arith in f) (dvd-mul_right 1 n)
 
-least_scale : (ls : List (Option Line)) → IsTable ls → (k : ℕ) → IsLeastScale ls k (scale_to ls k)
+pub least_scale : (ls : List (Option Line)) → IsTable ls → (k : ℕ) → IsLeastScale ls k (scale_to ls k)
 least_scale ls w zero =
     let P : ℕ → Type 0 = λ m. IsLeastScale ls 0 m in
     subst P (sym (scale_start ls)) (record { positive = omega arith; whole = λ i r l e. absurd (omega arith); least = λ j h. one_divides j })
@@ -135,7 +135,7 @@ last_is ls (suc n) =
     last_of (scales_of (suc n) ls) n (ranged_length (λ k. scale_to ls (k + 1)) (suc n)) ∙ ranged_get (λ k. scale_to ls (k + 1)) (suc n) n 0 (omega arith) ∙ ap (scale_to ls) (let e : n + 1 ≡ suc n = omega arith in e)
 
 -- ---- the scaling
-height_is : (m : ℕ) (o : Option Line) → ((r : Line) → o ≡ Some r → pos 0 <ℤ r.d) → ((r : Line) → o ≡ Some r → unsigned_abs r.d ∣ m * unsigned_abs r.c) → IsScaled m o (height_by m o)
+pub height_is : (m : ℕ) (o : Option Line) → ((r : Line) → o ≡ Some r → pos 0 <ℤ r.d) → ((r : Line) → o ≡ Some r → unsigned_abs r.d ∣ m * unsigned_abs r.c) → IsScaled m o (height_by m o)
 height_is m None p w = refl
 height_is m (Some r) p w = exact_quotient r.d (pos m *ℤ r.c) (p r refl) (subst (λ n. unsigned_abs r.d ∣ n) (sym (unsigned_abs-mul (pos m) r.c)) (w r refl))
 

@@ -18,7 +18,7 @@ use Rattle.strict_solver.proofs.Directions.{combination-one, IsDirection, direct
 pub cancel : (m p q : ℤ) → m ≢ pos 0 → m *ℤ p ≡ m *ℤ q → p ≡ q
 cancel m p q n e = back (m *ℤ p) (m *ℤ q) m p q n (ring (m ∷ p ∷ q ∷ []) (minus (times (var 0) (var 1)) (times (var 0) (var 2))) (times (var 0) (minus (var 1) (var 2))) refl) e
 
-proportion : (d g a b m v : ℤ) → m ≢ pos 0 → d *ℤ v ≡ a *ℤ m → g *ℤ v ≡ b *ℤ m → g *ℤ a ≡ d *ℤ b
+pub proportion : (d g a b m v : ℤ) → m ≢ pos 0 → d *ℤ v ≡ a *ℤ m → g *ℤ v ≡ b *ℤ m → g *ℤ a ≡ d *ℤ b
 proportion d g a b m v n e f =
     cancel m (g *ℤ a) (d *ℤ b) n
     (ring (m ∷ g ∷ a ∷ []) (times (var 0) (times (var 1) (var 2))) (times (var 1) (times (var 2) (var 0))) refl
@@ -28,7 +28,7 @@ proportion d g a b m v n e f =
     ∙ ring (m ∷ d ∷ b ∷ []) (times (var 1) (times (var 2) (var 0))) (times (var 0) (times (var 1) (var 2))) refl)
 
 -- lines in lowest form that are proportional are equal
-proportional-same : (r q : Line) → pos 0 <ℤ r.d → pos 0 <ℤ q.d → IsLowest r → IsLowest q → map (λ z. q.d *ℤ z) (line_numbers r) ≡ map (λ z. r.d *ℤ z) (line_numbers q) → r ≡ q
+pub proportional-same : (r q : Line) → pos 0 <ℤ r.d → pos 0 <ℤ q.d → IsLowest r → IsLowest q → map (λ z. q.d *ℤ z) (line_numbers r) ≡ map (λ z. r.d *ℤ z) (line_numbers q) → r ≡ q
 proportional-same r q pr pq lr lq same = reduced_same (record { d = q.d *ℤ r.d; c = q.d *ℤ r.c; coefficients = map (λ z. q.d *ℤ z) r.coefficients }) r q (at q.d pq refl) (on r.d pr refl)
   where
     at : (k : ℤ) → pos 0 <ℤ k → q.d ≡ k → IsReduced (record { d = q.d *ℤ r.d; c = q.d *ℤ r.c; coefficients = map (λ z. q.d *ℤ z) r.coefficients }) r
@@ -53,10 +53,10 @@ as_some o (Some q) r a b = (q, refl)
 as_some None None r a b = cc
 as_some (Some o) None r a b = cc
 
-zero_left : (c a : ℤ) → c *ℤ pos 0 +ℤ a ≡ a
+pub zero_left : (c a : ℤ) → c *ℤ pos 0 +ℤ a ≡ a
 zero_left c a = ring (c ∷ a ∷ []) (plus (times (var 0) (num (pos 0))) (var 1)) (var 1) refl
 
-zero_right : (c : ℤ) → c +ℤ pos 0 ≡ c
+pub zero_right : (c : ℤ) → c +ℤ pos 0 ≡ c
 zero_right c = omega (arith, ints)
 
 module _ (s t : List (Option Line)) (len : length s ≡ length t) (ws : IsTable s) (wt : IsTable t) (ls : AreLowest s) (lt : AreLowest t) (basics : (z : ℕ) → is_none (get_or s z None) ≡ is_none (get_or t z None))

@@ -10,3 +10,8 @@ pub mod Solving
 pub mod Lengths
 pub mod Equations
 pub mod Continuing
+pub mod Mixing
+pub mod Standing
+pub mod Endings
+pub mod Stems
+pub mod Pushes

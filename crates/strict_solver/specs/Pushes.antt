@@ -1,0 +1,13 @@
+-- What a further row does to a stem.
+use Rattle.std.specs.Prelude.{◌≡◌, List, [], ◌∷◌, ◌++◌, map, Some, None}
+use Rattle.ntfe_model.specs.declared.nogood.Fold.{Fold}
+use Rattle.ntfe_model.specs.Solver.{fold_row, IsInfeasible}
+use Rattle.strict_solver.specs.declared.stem.Pushed.{Pushed}
+use Rattle.strict_solver.specs.declared.stem.Pushed.TheVariants.{Feasible, Infeasible, Unknown}
+use Rattle.strict_solver.specs.Stems.{StemValue}
+
+-- the fold comes after the others: the run on all ends feasible, or it ends infeasible, with these multipliers, or nothing is known
+abbrev pub HasPushed : StemValue → StemValue → Fold → Pushed → Type 0
+HasPushed old new f Feasible = (fs : List Fold) → old.folds ≡ Some fs → new.folds ≡ Some (fs ++ f ∷ [])
+HasPushed old new f Infeasible = (fs : List Fold) → old.folds ≡ Some fs → IsInfeasible old.columns (map (fold_row old.columns) (fs ++ f ∷ [])) None new.multipliers
+HasPushed old new f Unknown = Unit {0}

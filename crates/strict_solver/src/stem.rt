@@ -1,0 +1,234 @@
+//! The end of the stated run on some rows, from which it goes on.
+ghost use Rattle.std.specs.Prelude.{◌≡◌, ◌+◌, ◌*◌, ◌<◌, ◌≤◌, ℕ, [], length, is_some, OnOk};
+ghost use Rattle.strict_solver.specs.Grids.{row_at};
+ghost use Rattle.strict_solver.specs.Standing.{HasSameSizes};
+ghost use Rattle.strict_solver.specs.Stems.{ArePlacedHeights, IsItself, HasMemory, IsKnownStem, IsCopy};
+
+use crate::basis::Basis;
+use crate::place::Place;
+use crate::stepping::Ending;
+use ntfe_model::Fold;
+use std::alloc::{AllocError, Global};
+use std::marker::Model;
+
+/// What a further row does to a stem.
+#[derive(Clone, Copy, Drop, PartialEq, Eq, Debug)]
+pub enum Pushed {
+    /// The run on the rows with it ends feasible, and the stem stands at its end.
+    Feasible,
+    /// The rows with it cancel.
+    Infeasible,
+    /// Nothing is known: a number did not fit.
+    Unknown,
+}
+
+/// Where the stated run without a width ends on some rows. It goes on from there when a row comes after the others, and nothing
+/// is done again. Its table has one denominator, and numbers below 2^30 in size: over N heights it takes N (N + 2) words.
+#[derive(Drop)]
+pub struct Stem {
+    basis: Basis,
+    folds: Vec<Fold>,
+    known: bool,
+    multipliers: Vec<(u32, i64)>,
+}
+
+impl Model for Stem {
+    ghost use Rattle.std.specs.Prelude.{◌≡◌, true, cond, Some, None};
+    ghost use Rattle.strict_solver.specs.Stems.{StemValue, HasMemory, IsKnownStem};
+
+    ghost Value = { StemValue };
+
+    ghost view = { λ s. record { columns = s.basis.columns; folds = cond s.known (Some s.folds.items) None; multipliers = s.multipliers.items } };
+
+    ghost invariant = { λ s. HasMemory s.basis × (s.known ≡ true → IsKnownStem s.basis s.folds.items) };
+}
+
+/// The places of the heights: each has its column.
+fn place_heights(places: &mut Vec<Place>, columns: usize) -> Result<(), AllocError>
+    requires { columns ≤ 400 }
+    ensures { OnOk result (ArePlacedHeights columns places.new.items) }
+{
+    places.clear();
+    for k in 0..columns {
+        places.push(Place::Column(k + 2))?;
+    }
+    Ok(())
+}
+
+/// The row of a height that is not basic: it is itself, at its column.
+fn make_itself(row: &mut [i64], column: usize)
+    requires after { 2 ≤ column }
+    requires within { column < length row.old }
+    ensures count { length row.new ≡ length row.old }
+    ensures row { IsItself column row.new }
+{
+    for number in row.iter_mut() {
+        *number = 0;
+    }
+    row[0] = 1;
+    row[column] = 1;
+}
+
+/// The rows of heights that are not basic: each is itself.
+fn clear_rows(cells: &mut [i64], columns: usize)
+    requires few { columns ≤ 400 }
+    requires room { length cells.old ≡ columns * (columns + 2) }
+    ensures count { length cells.new ≡ length cells.old }
+    ensures rows { (k : ℕ) → k < columns → IsItself (k + 2) (row_at (columns + 2) cells.new k) }
+{
+    let stride = columns + 2;
+    for k in 0..columns {
+        make_itself(&mut cells[k * stride..k * stride + stride], k + 2);
+    }
+}
+
+impl Basis {
+    /// Stands at the end of the run on no rows.
+    fn start(&mut self) -> Result<(), AllocError>
+        requires { HasMemory self.old }
+        ensures sizes { HasSameSizes self.old self.new }
+        ensures stands { OnOk result (IsKnownStem self.new []) }
+    {
+        place_heights(&mut self.places, self.columns)?;
+        clear_rows(&mut self.cells, self.columns);
+        self.denominator = 1;
+        Ok(())
+    }
+
+    /// Takes the numbers of another basis over as many heights.
+    fn copy_from(&mut self, other: &Basis) -> Result<(), AllocError>
+        requires memory { HasMemory self.old }
+        requires others { HasMemory other.now }
+        requires columns { other.now.columns ≡ self.old.columns }
+        ensures sizes { HasSameSizes self.old self.new }
+        ensures copied { OnOk result (IsCopy other.now self.new) }
+    {
+        self.denominator = other.denominator;
+        self.cells.copy_from_slice(&other.cells);
+        self.places.clear();
+        self.places.extend_from_slice(&other.places)
+    }
+}
+
+impl Stem {
+    ghost use Rattle.std.specs.Prelude.{◌++◌, ◌∷◌, List, ℤ, map, Some, None, IfOk};
+    ghost use Rattle.ntfe_model.specs.declared.nogood.Fold.{Fold as FoldOf};
+    ghost use Rattle.ntfe_model.specs.Solver.{fold_row, IsFeasible};
+    ghost use Rattle.strict_solver.specs.Starts.{IsFoldOver};
+    ghost use Rattle.strict_solver.specs.Pushes.{HasPushed};
+
+    /// A stem over so many heights, at no rows.
+    ///
+    /// # Errors
+    /// `AllocError` where memory is short.
+    pub fn new(alloc: Global, columns: u32) -> Result<Stem, AllocError>
+        requires { columns ≤ 400 }
+        ensures columns { IfOk result (λ s. s.columns ≡ columns) }
+        ensures folds { IfOk result (λ s. s.folds ≡ Some []) }
+    {
+        let columns = columns as usize;
+        let mut basis = Basis {
+            columns,
+            denominator: 1,
+            cells: vec![in alloc; 0; columns * (columns + 2)]?,
+            places: Vec::new(alloc),
+            line: vec![in alloc; 0; columns + 2]?,
+        };
+        basis.start()?;
+        Ok(Stem {
+            basis,
+            folds: Vec::new(alloc),
+            known: true,
+            multipliers: Vec::new(alloc),
+        })
+    }
+
+    /// Goes back to no rows.
+    ///
+    /// # Errors
+    /// `AllocError` where memory is short. Then nothing is known.
+    pub fn start(&mut self) -> Result<(), AllocError>
+        ensures columns { self.new.columns ≡ self.old.columns }
+        ensures folds { OnOk result (self.new.folds ≡ Some []) }
+    {
+        self.known = false;
+        self.folds.clear();
+        self.basis.start()?;
+        self.known = true;
+        Ok(())
+    }
+
+    /// Stands where the other one does.
+    ///
+    /// # Errors
+    /// `AllocError` where memory is short. Then nothing is known.
+    pub fn copy_from(&mut self, other: &Stem) -> Result<(), AllocError>
+        requires { other.now.columns ≡ self.old.columns }
+        ensures columns { self.new.columns ≡ self.old.columns }
+        ensures folds { OnOk result (self.new.folds ≡ other.now.folds) }
+    {
+        self.known = false;
+        self.folds.clear();
+        self.folds.extend_from_slice(&other.folds)?;
+        self.basis.copy_from(&other.basis)?;
+        self.known = other.known;
+        Ok(())
+    }
+
+    /// Whether it is known where the run ends.
+    pub fn is_known(&self) -> bool
+        ensures { result ≡ is_some self.now.folds }
+    {
+        self.known
+    }
+
+    /// Goes on with one more row. Where the rows cancel with it or a number does not fit, nothing is known afterwards.
+    ///
+    /// # Errors
+    /// `AllocError` where memory is short. Then nothing is known.
+    pub fn push(&mut self, fold: &Fold) -> Result<Pushed, AllocError>
+        requires known { (fs : List FoldOf) × (self.old.folds ≡ Some fs) }
+        requires fold { IsFoldOver self.old.columns fold.now }
+        ensures columns { self.new.columns ≡ self.old.columns }
+        ensures pushed { IfOk result (λ p. HasPushed self.old self.new fold.now p) }
+    {
+        self.known = false;
+        self.folds.push(*fold)?;
+        if self.folds.len() >= 1 << 32 {
+            return Ok(Pushed::Unknown);
+        }
+        match self.basis.go_on(&self.folds, fold)? {
+            Ending::Feasible => {
+                self.known = true;
+                Ok(Pushed::Feasible)
+            }
+            Ending::Infeasible(row) => {
+                self.basis
+                    .write_multipliers(row, self.folds.len(), &mut self.multipliers)?;
+                Ok(Pushed::Infeasible)
+            }
+            Ending::Unknown => Ok(Pushed::Unknown),
+        }
+    }
+
+    /// The multipliers that the last row found with which the rows cancel: row numbers from 0, rising.
+    pub fn multipliers(&self) -> &[(u32, i64)]
+        ensures { result.now ≡ self.now.multipliers }
+    {
+        &self.multipliers
+    }
+
+    /// Writes the heights of the stated run.
+    pub fn write_heights(&mut self, heights: &mut [i64])
+        requires known { (fs : List FoldOf) × (self.old.folds ≡ Some fs) }
+        requires count { length heights.old ≡ self.old.columns }
+        ensures same { self.new ≡ self.old }
+        ensures count { length heights.new ≡ self.old.columns }
+        ensures heights { (fs : List FoldOf) → self.old.folds ≡ Some fs → IsFeasible self.old.columns (map (fold_row self.old.columns) fs) None heights.new }
+    {
+        self.basis.write_heights();
+        for k in 0..heights.len() {
+            heights[k] = self.basis.line[k + 1];
+        }
+    }
+}
