@@ -1,12 +1,12 @@
 //! The board: open keys, recorded outcomes and pruned keys of one geometry.
 use crate::changes::{insert_keys, make_room, put};
 use crate::opening::{choice_from, copied_keys, made_of, opened_keys};
+use crate::order::comes_first;
 use crate::outcome::{Outcome, outcome_of};
 use crate::record::{Record, Stop};
 use crate::rows::{Keyed, find};
 use crate::start::start_keys;
 use crate::totals::Totals;
-use crate::order::comes_first;
 use crate::verdict::{Settled, Verdict};
 use ntfe_model::{Choice, Geometry, Key, List, Nogood};
 use std::alloc::{AllocError, Global};

@@ -3,12 +3,12 @@ ghost use Rattle.std.specs.Prelude.{◌≡◌, IfOk};
 
 use crate::changes::insert_keys;
 use crate::opening::opened_keys;
+use crate::order::comes_first;
 use crate::outcome::{Outcome, outcome_of};
 use crate::record::Found;
 use crate::rows::Keyed;
 use crate::start::start_keys;
 use crate::totals::Totals;
-use crate::order::comes_first;
 use crate::verdict::Verdict;
 use ntfe_model::{Key, List};
 use std::alloc::{AllocError, Global};
