@@ -59,3 +59,4 @@ pub mod Exchanging
 pub mod Settling
 pub mod HeightsLine
 pub mod Stems
+pub mod Extending

@@ -1,5 +1,5 @@
 -- What the answers mean for the folds.
-use Rattle.std.proofs.Common.{◌≡◌, ℕ, zero, suc, ◌+◌, ◌-◌, ◌<◌, ◌≤◌, ◌==◌, ◌⊎◌, inl, inr, Bool, true, false, cond, refl, sym, ap, ◌∙◌, subst, arith, ℤ, pos, ◌+ℤ◌, ◌-ℤ◌, ◌*ℤ◌, ◌≤ℤ◌, int_lt, List, [], ◌∷◌, map, filter, length, get_or, Some}
+use Rattle.std.proofs.Common.{◌≡◌, ℕ, zero, suc, ◌+◌, ◌-◌, ◌<◌, ◌≤◌, ◌==◌, ◌⊎◌, inl, inr, Bool, true, false, cond, refl, sym, ap, ◌∙◌, subst, arith, ℤ, pos, ◌+ℤ◌, ◌-ℤ◌, ◌*ℤ◌, ◌≤ℤ◌, int_lt, List, [], ◌∷◌, map, filter, length, get_or, Some, Option}
 use Rattle.std.specs.Prelude.{All, AllPairs}
 use Rattle.std.specs.List.{range_with_len}
 use Rattle.std.proofs.lemmas.Int.{ints}
@@ -133,22 +133,22 @@ above columns fs width hs w h =
           subst Q (row_value columns f hs c over) (subst P (get_or-map (fold_row columns) fs j d [] l) r)),
     )
 
-cancelling : (columns : ℕ) (fs : List Fold) (width : ℕ) (ms : List (ℕ × ℤ)) → IsInfeasible columns (map (fold_row columns) fs) (Some width) ms → AreMultipliers columns (map (fold_row columns) fs) ms
+pub cancelling : (columns : ℕ) (fs : List Fold) (width : Option ℕ) (ms : List (ℕ × ℤ)) → IsInfeasible columns (map (fold_row columns) fs) width ms → AreMultipliers columns (map (fold_row columns) fs) ms
 cancelling columns fs width ms h =
     let rs = map (fold_row columns) fs in
     let P : List (ℕ × ℤ) → Type 0 = λ es. AllPairs (λ (e : ℕ × ℤ) (f : ℕ × ℤ). e.0 < f.0) es in
     record {
-      positive = infeasible-positive columns rs (Some width) ms h;
-      some = infeasible-some columns rs (Some width) ms (are_rows columns fs) h;
+      positive = infeasible-positive columns rs width ms h;
+      some = infeasible-some columns rs width ms (are_rows columns fs) h;
       rising = subst P (sym h.multipliers_are) (rising_from (multiplier_at columns h.slack h.row) 0 (length rs));
-      cancel = λ k l. same_sum ms _ ∙ infeasible-coefficients columns rs (Some width) ms (are_rows columns fs) h k;
+      cancel = λ k l. same_sum ms _ ∙ infeasible-coefficients columns rs width ms (are_rows columns fs) h k;
     }
 
 pub meaning_of : (columns : ℕ) (fs : List Fold) (width : ℕ) (s : Solved) (a : Answer) → AreFoldsOver columns fs → HasSolved columns (map (fold_row columns) fs) width s a → HasMeaning columns fs s a
 meaning_of columns fs width Feasible (feasible hs) w h = above columns fs width hs w h
 meaning_of columns fs width Feasible unsolved w h = absurd h
 meaning_of columns fs width Feasible (infeasible ms) w h = absurd h
-meaning_of columns fs width Infeasible (infeasible ms) w h = cancelling columns fs width ms h
+meaning_of columns fs width Infeasible (infeasible ms) w h = cancelling columns fs (Some width) ms h
 meaning_of columns fs width Infeasible unsolved w h = absurd h
 meaning_of columns fs width Infeasible (feasible hs) w h = absurd h
 meaning_of columns fs width (Wide step number) a w h = tt

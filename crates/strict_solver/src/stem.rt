@@ -1,5 +1,6 @@
 //! The end of the stated run on some rows, from which it goes on.
-ghost use Rattle.std.specs.Prelude.{◌≡◌, ◌+◌, ◌*◌, ◌<◌, ◌≤◌, ℕ, [], length, is_some, OnOk};
+ghost use Rattle.std.specs.Prelude.{◌≡◌, ◌+◌, ◌*◌, ◌<◌, ◌≤◌, ℕ, [], take, length, is_some, OnOk};
+ghost use Rattle.std.specs.Bool.{OnTrue};
 ghost use Rattle.strict_solver.specs.Grids.{row_at};
 ghost use Rattle.strict_solver.specs.Standing.{HasSameSizes};
 ghost use Rattle.strict_solver.specs.Stems.{ArePlacedHeights, IsItself, HasMemory, IsKnownStem, IsCopy};
@@ -110,12 +111,37 @@ impl Basis {
     }
 }
 
+/// Whether the folds are equal.
+fn is_same(fold: &Fold, other: &Fold) -> bool
+    ensures { OnTrue result (fold.now ≡ other.now) }
+{
+    fold.a == other.a
+        && fold.b == other.b
+        && fold.c == other.c
+        && fold.d == other.d
+        && fold.alpha == other.alpha
+        && fold.beta == other.beta
+}
+
+/// Whether the others begin with these folds.
+fn begin_with(others: &[Fold], folds: &[Fold]) -> bool
+    requires { length folds.now ≤ length others.now }
+    ensures { OnTrue result (folds.now ≡ take (length folds.now) others.now) }
+{
+    for k in 0..folds.len() {
+        if !is_same(&folds[k], &others[k]) {
+            return false;
+        }
+    }
+    true
+}
+
 impl Stem {
-    ghost use Rattle.std.specs.Prelude.{◌++◌, ◌∷◌, List, ℤ, map, Some, None, IfOk};
+    ghost use Rattle.std.specs.Prelude.{◌++◌, ◌∷◌, List, ℤ, map, Some, None, IfOk, IfSome};
     ghost use Rattle.ntfe_model.specs.declared.nogood.Fold.{Fold as FoldOf};
     ghost use Rattle.ntfe_model.specs.Solver.{fold_row, IsFeasible};
-    ghost use Rattle.strict_solver.specs.Starts.{IsFoldOver};
-    ghost use Rattle.strict_solver.specs.Pushes.{HasPushed};
+    ghost use Rattle.strict_solver.specs.Starts.{IsFoldOver, AreFoldsOver};
+    ghost use Rattle.strict_solver.specs.Pushes.{HasPushed, HasExtended};
 
     /// A stem over so many heights, at no rows.
     ///
@@ -209,6 +235,41 @@ impl Stem {
             }
             Ending::Unknown => Ok(Pushed::Unknown),
         }
+    }
+
+    /// How many of the rows it stands for, where these are its rows as far as it has them.
+    pub fn stands_for(&self, folds: &[Fold]) -> Option<usize>
+        ensures within { IfSome result (λ n. n ≤ length folds.now) }
+        ensures folds { IfSome result (λ n. self.now.folds ≡ Some (take n folds.now)) }
+    {
+        let count = self.folds.len();
+        if self.known && count <= folds.len() && begin_with(folds, &self.folds) {
+            Some(count)
+        } else {
+            None
+        }
+    }
+
+    /// Goes on with these of the rows, one by one, until the rows cancel or a number does not fit.
+    ///
+    /// # Errors
+    /// `AllocError` where memory is short. Then nothing is known.
+    pub fn extend(&mut self, folds: &[Fold], from: usize, to: usize) -> Result<Pushed, AllocError>
+        requires known { self.old.folds ≡ Some (take from folds.now) }
+        requires from { from ≤ to }
+        requires to { to ≤ length folds.now }
+        requires folds { AreFoldsOver self.old.columns folds.now }
+        ensures columns { self.new.columns ≡ self.old.columns }
+        ensures extended { IfOk result (λ p. HasExtended self.new folds.now to p) }
+    {
+        for k in from..to {
+            match self.push(&folds[k])? {
+                Pushed::Feasible => {}
+                Pushed::Infeasible => return Ok(Pushed::Infeasible),
+                Pushed::Unknown => return Ok(Pushed::Unknown),
+            }
+        }
+        Ok(Pushed::Feasible)
     }
 
     /// The multipliers that the last row found with which the rows cancel: row numbers from 0, rising.

@@ -5,7 +5,7 @@ ghost use Rattle.strict_solver.specs.Starts.{IsFoldOver, AreFoldsOver};
 use crate::grid::Grid;
 use crate::place::Place;
 use crate::row::PivotRow;
-use crate::{Solved, Tableau};
+use crate::{Pushed, Solved, Stem, Tableau};
 use ntfe_model::Fold;
 use std::alloc::Global;
 use std::test::Fail;
@@ -134,6 +134,39 @@ fn folds_of_fifteen_faces(rt: HostRuntime) -> Result<(), Fail> {
     };
     assert_eq!(rt;
         tableau.heights(),
+        [6, 3, 3, 1, 3, 1, 0, 3, 1, 1, 0, 1, 0, 0, 0].as_slice()
+    );
+    Ok(())
+}
+
+#[test]
+fn going_on_with_cancelling_folds(rt: HostRuntime) -> Result<(), Fail> {
+    let rows = folds(
+        rt.alloc(),
+        &[
+            [11, 14, 10, 15, 1, 1],
+            [10, 12, 8, 14, 1, 1],
+            [8, 15, 11, 12, 1, 1],
+        ],
+    )?;
+    let mut stem = Stem::new(rt.alloc(), 15)?;
+    assert_eq!(rt; stem.extend(&rows, 0, rows.len())?, Pushed::Infeasible);
+    assert_eq!(rt; stem.multipliers(), [(0, 1), (1, 1), (2, 1)].as_slice());
+    assert_eq!(rt; stem.is_known(), false);
+    Ok(())
+}
+
+#[test]
+fn going_on_over_fifteen_faces(rt: HostRuntime) -> Result<(), Fail> {
+    let rows = folds(rt.alloc(), &FIRST_CHOICE)?;
+    let mut stem = Stem::new(rt.alloc(), 15)?;
+    let Pushed::Feasible = stem.extend(&rows, 0, rows.len())? else {
+        return Err(Fail::new("no heights"));
+    };
+    let mut heights = vec![in rt.alloc(); 0; 15]?;
+    stem.write_heights(&mut heights);
+    assert_eq!(rt;
+        heights.as_slice(),
         [6, 3, 3, 1, 3, 1, 0, 3, 1, 1, 0, 1, 0, 0, 0].as_slice()
     );
     Ok(())
