@@ -1,11 +1,13 @@
--- The pairs of the demo are bounded and reflexive.
+-- The pairs of the demo are bounded, reflexive and small.
 use Rattle.std.proofs.Common.{◌≡◌, ℕ, zero, suc, ◌≤◌, true, refl, arith}
 use Rattle.ntfe_nums.specs.Vectors.{cofactors, det4}
 use Rattle.ntfe_model.specs.Pairs.{IsBounded}
 use Rattle.ntfe_model.specs.Reflexive.{IsReflexive}
+use Rattle.polygon_demo.specs.Limits.{IsSmallPair}
 use Rattle.polygon_demo.specs.Polygons.{demo_pair}
 use Rattle.polygon_demo.proofs.ReflexiveTest.{is_reflexive, reflexive}
 use Rattle.polygon_demo.proofs.BoundedTest.{bounded}
+use Rattle.polygon_demo.proofs.UnitBoxes.{small_pair}
 
 passes1 : is_reflexive (demo_pair 1) ≡ true
 unfolding cofactors det4
@@ -47,3 +49,8 @@ pub demo_bounded : (number : ℕ) → 1 ≤ number → number ≤ 5 → IsBounde
 demo_bounded =
     of_five (λ n. IsBounded (demo_pair n))
     (bounded (demo_pair 1) refl) (bounded (demo_pair 2) refl) (bounded (demo_pair 3) refl) (bounded (demo_pair 4) refl) (bounded (demo_pair 5) refl)
+
+pub demo_small : (number : ℕ) → 1 ≤ number → number ≤ 5 → IsSmallPair (demo_pair number)
+demo_small =
+    of_five (λ n. IsSmallPair (demo_pair n)) (small_pair (demo_pair 1) refl) (small_pair (demo_pair 2) refl) (small_pair (demo_pair 3) refl)
+    (small_pair (demo_pair 4) refl) (small_pair (demo_pair 5) refl)

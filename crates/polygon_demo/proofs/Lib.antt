@@ -1,4 +1,5 @@
 mod TailLemmas
 mod BoundedTest
 mod ReflexiveTest
+mod UnitBoxes
 mod DemoPairs

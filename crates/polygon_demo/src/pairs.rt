@@ -2,6 +2,7 @@
 ghost use Rattle.std.specs.Prelude.{◌≡◌, ◌≤◌, ◌++◌, map, flat_map, pos, IfOk};
 ghost use Rattle.ntfe_model.specs.Pairs.{IsBounded};
 ghost use Rattle.ntfe_model.specs.Reflexive.{IsReflexive};
+ghost use Rattle.polygon_demo.specs.Limits.{IsSmallPair};
 ghost use Rattle.polygon_demo.specs.Polygons.{joined, product, demo_pair};
 
 use crate::polygons::numbered;
@@ -40,7 +41,7 @@ fn append_products(
 }
 
 /// The pair of the demo with this number: the product of polygon 1 and the polygon with the number.
-/// It is reflexive.
+/// It is reflexive, its box has at most 27 columns, and it has at most 81 points.
 ///
 /// # Errors
 ///
@@ -50,6 +51,7 @@ pub fn demo(alloc: Global, number: u8) -> Result<Pair, AllocError>
     requires high { number ≤ 5 }
     ensures pair { IfOk result (λ p. p ≡ demo_pair number) }
     ensures reflexive { IfOk result IsReflexive }
+    ensures small { IfOk result IsSmallPair }
 {
     let first = numbered(1);
     let second = numbered(number);

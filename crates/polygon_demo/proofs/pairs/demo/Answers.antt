@@ -1,8 +1,9 @@
 use Rattle.std.proofs.Common.{◌≡◌, sym, subst, rules}
 use Rattle.ntfe_model.specs.Pairs.{VertexLists, IsBounded}
 use Rattle.ntfe_model.specs.Reflexive.{IsReflexive}
+use Rattle.polygon_demo.specs.Limits.{IsSmallPair}
 use Rattle.polygon_demo.specs.Polygons.{demo_pair}
-use Rattle.polygon_demo.proofs.DemoPairs.{demo_bounded, demo_reflexive}
+use Rattle.polygon_demo.proofs.DemoPairs.{demo_bounded, demo_reflexive, demo_small}
 use Rattle.polygon_demo.proofs.pairs.demo.Goals as goal
 
 pub new-requires : goal.new-requires
@@ -15,3 +16,8 @@ pub returns-clause-reflexive : goal.returns-clause-reflexive
 returns-clause-reflexive c =
     let e : c.new.result ≡ demo_pair c.args.number = search rules in
     subst IsReflexive (sym e) (demo_reflexive c.args.number c.requires.low c.requires.high)
+
+pub returns-clause-small : goal.returns-clause-small
+returns-clause-small c =
+    let e : c.new.result ≡ demo_pair c.args.number = search rules in
+    subst IsSmallPair (sym e) (demo_small c.args.number c.requires.low c.requires.high)
