@@ -1,8 +1,8 @@
 //! The program: makes the real source, sinks and gate, and calls the top call.
 #![tactic(auto)]
 
-use io_edge::{OpenGate, ReadEdge, WriteEdge};
-use ntfe_run::run;
+use io_edge::{OpenGate, ReadEdge, WriteEdge, write_text};
+use ntfe_run::{Status, run};
 use std::process::ExitCode;
 use std::{env, io};
 
@@ -16,14 +16,18 @@ fn words(rt: &HostRuntime) -> io::Result<Vec<String>> {
 }
 
 fn main(rt: HostRuntime) -> ExitCode {
-    // Words that are not text have no meaning, as the empty list has none.
+    let mut err = WriteEdge::new(rt.stderr());
     let words = match words(&rt) {
         Ok(words) => words,
+        Err(error) if error.kind() == io::ErrorKind::OutOfMemory => {
+            let _ = write_text("ntfe: out of memory\n", &mut err);
+            return ExitCode::from(Status::Memory.code());
+        }
+        // Words that are not text have no meaning, as the empty list has none.
         Err(_) => Vec::new(rt.alloc()),
     };
     let mut source = ReadEdge::new(rt.stdin());
     let mut out = WriteEdge::new(rt.stdout());
-    let mut err = WriteEdge::new(rt.stderr());
     let status = run(
         &rt,
         rt.alloc(),

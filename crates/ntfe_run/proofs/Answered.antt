@@ -1,5 +1,5 @@
 -- From the reading of an input and the writing of its answer to what the status says of the command.
-use Rattle.std.proofs.Common.{◌≡◌, refl, sym, ap, subst, ℕ, List, Some, None, Result, Ok, Err, inl, inr}
+use Rattle.std.proofs.Common.{◌≡◌, ◌∙◌, refl, sym, ap, subst, ℕ, List, Some, None, Result, Ok, Err, inl, inr}
 use Rattle.std.specs.Prelude.{Option, IfErr}
 use Rattle.std.specs.Io.KnownBytes.{Keeps}
 use Rattle.io_edge.proofs.Pieces.{prefix_all}
@@ -9,14 +9,17 @@ use Rattle.io_edge.specs.declared.line_fault.LineFault.{LineFault}
 use Rattle.io_edge.specs.declared.line_fault.LineFault.TheVariants as line
 use Rattle.ntfe_model.specs.Shapes.{Shape}
 use Rattle.ntfe_model.specs.FacesText.{faces_text}
-use Rattle.ntfe_words.specs.declared.command.Options.{Options}
 use Rattle.ntfe_run.specs.Edges.{Edges}
-use Rattle.ntfe_run.specs.Rooms.{Room, IsReadInput, IsAnswer, IsAnswered, HasCause, HasText}
-use Rattle.ntfe_run.specs.Commands.{classes_room, faces_room, input_limit}
-use Rattle.ntfe_run.specs.Statuses.{status_of_lines, IsReadStop}
+use Rattle.io_edge.specs.Reading.{ReadsAll, ReadsPast}
+use Rattle.ntfe_model.specs.RunText.{Form}
+use Rattle.ntfe_run.specs.Inputs.{IsRefusalOf}
+use Rattle.ntfe_run.specs.Earlier.{IsBegunRefusal}
+use Rattle.ntfe_run.specs.Rooms.{Room, IsRead, IsReadInput, IsAnswer, IsAnswered, HasCause, HasText}
+use Rattle.ntfe_run.specs.Commands.{faces_room}
+use Rattle.ntfe_run.specs.Statuses.{status_of_lines, IsReadStop, IsByteStop}
 use Rattle.ntfe_run.specs.Messages.{TellsMessage}
 use Rattle.ntfe_run.specs.declared.status.Refusal.{Refusal}
-use Rattle.ntfe_run.specs.declared.status.Refusal.TheVariants.{Size, Text, Pair, Points, Unready}
+use Rattle.ntfe_run.specs.declared.status.Refusal.TheVariants.{Size, NoOutput, Text, Pair, Points, Earlier, Unready}
 use Rattle.ntfe_run.specs.declared.status.Status.{Status}
 use Rattle.ntfe_run.specs.declared.status.Status.TheVariants.{Done, Usage, Refused, Overflow, Limit, Memory, ReadFault, WriteFault}
 
@@ -38,35 +41,64 @@ answered r i e WriteFault read h = record { cause = h.1; text = record { input =
 answered r i e ReadFault read h = absurd h
 answered r i e Usage read h = absurd h
 
--- no pair was read, and nothing was written
-module _ (e : Edges) (kept : Keeps e.taken.before e.taken.after) where
-  pub classes_stopped : (o : Options) (s : Status) → IsReadStop e.left e.read_faults s → IsAnswered (classes_room o) e s
-  classes_stopped o (Refused (Size limit)) h = record { cause = (ap (λ n. Some n) (sym h.0), subst (λ (n : ℕ). Rattle.io_edge.specs.Reading.ReadsPast e.left.before e.left.after n) (sym h.0) h.1); text = kept }
-  classes_stopped o (Refused (Text fault)) h = record { cause = h; text = kept }
-  classes_stopped o (Refused (Pair fault)) h = record { cause = h; text = kept }
-  classes_stopped o (Refused (Points fault)) h = record { cause = h; text = kept }
-  classes_stopped o (Refused (Unready stage)) h = record { cause = h; text = kept }
-  classes_stopped o Memory h = record { cause = tt; text = inl kept }
-  classes_stopped o ReadFault h = record { cause = h; text = kept }
-  classes_stopped o Done h = absurd h
-  classes_stopped o Usage h = absurd h
-  classes_stopped o WriteFault h = absurd h
-  classes_stopped o (Overflow choice step number) h = absurd h
-  classes_stopped o (Limit face) h = absurd h
+-- no input was read, and nothing was written
+module _ (r : Room) (most : ℕ) (limited : r.limit ≡ Some most) (e : Edges) (kept : Keeps e.taken.before e.taken.after) where
+  -- the input was read, and refused
+  refused : (refusal : Refusal) → (bytes : List ℕ) × ReadsAll e.left.before e.left.after bytes most × r.Refuses bytes refusal → IsRead r.limit e (λ bytes. r.Refuses bytes refusal)
+  refused refusal h = subst (λ (l : Option ℕ). IsRead l e (λ bytes. r.Refuses bytes refusal)) (sym limited) h
 
-  pub faces_stopped : (s : Status) → IsReadStop e.left e.read_faults s → IsAnswered faces_room e s
-  faces_stopped (Refused (Size limit)) h = record { cause = (ap (λ n. Some n) (sym h.0), subst (λ (n : ℕ). Rattle.io_edge.specs.Reading.ReadsPast e.left.before e.left.after n) (sym h.0) h.1); text = kept }
-  faces_stopped (Refused (Text fault)) h = record { cause = h; text = kept }
-  faces_stopped (Refused (Pair fault)) h = record { cause = h; text = kept }
-  faces_stopped (Refused (Points fault)) h = record { cause = h; text = kept }
-  faces_stopped (Refused (Unready stage)) h = record { cause = h; text = kept }
-  faces_stopped Memory h = record { cause = tt; text = inl kept }
-  faces_stopped ReadFault h = record { cause = h; text = kept }
-  faces_stopped Done h = absurd h
-  faces_stopped Usage h = absurd h
-  faces_stopped WriteFault h = absurd h
-  faces_stopped (Overflow choice step number) h = absurd h
-  faces_stopped (Limit face) h = absurd h
+  pub read_stopped : (s : Status) → IsReadStop most r.Refuses e.left e.read_faults s → IsAnswered r e s
+  read_stopped (Refused (Size limit)) h = record { cause = (limited ∙ ap (λ n. Some n) (sym h.0), subst (λ (n : ℕ). ReadsPast e.left.before e.left.after n) (sym h.0) h.1); text = kept }
+  read_stopped (Refused NoOutput) h = record { cause = refused NoOutput h; text = kept }
+  read_stopped (Refused (Text fault)) h = record { cause = refused (Text fault) h; text = kept }
+  read_stopped (Refused (Pair fault)) h = record { cause = refused (Pair fault) h; text = kept }
+  read_stopped (Refused (Points fault)) h = record { cause = refused (Points fault) h; text = kept }
+  read_stopped (Refused (Earlier fault)) h = record { cause = refused (Earlier fault) h; text = kept }
+  read_stopped (Refused (Unready stage)) h = record { cause = refused (Unready stage) h; text = kept }
+  read_stopped Memory h = record { cause = tt; text = inl kept }
+  read_stopped ReadFault h = record { cause = h; text = kept }
+  read_stopped Done h = absurd h
+  read_stopped Usage h = absurd h
+  read_stopped WriteFault h = absurd h
+  read_stopped (Overflow choice step number) h = absurd h
+  read_stopped (Limit face) h = absurd h
+
+-- a source that stops before its end stops every reading
+pub bytes_stopped : (most : ℕ) (Refuses : List ℕ → Refusal → Type 0) (left : Change (Option (List ℕ))) (faults : Change ℕ) (s : Status) → IsByteStop most left faults s → IsReadStop most Refuses left faults s
+bytes_stopped most Refuses left faults (Refused (Size limit)) h = h
+bytes_stopped most Refuses left faults (Refused NoOutput) h = absurd h.2
+bytes_stopped most Refuses left faults (Refused (Text fault)) h = absurd h.2
+bytes_stopped most Refuses left faults (Refused (Pair fault)) h = absurd h.2
+bytes_stopped most Refuses left faults (Refused (Points fault)) h = absurd h.2
+bytes_stopped most Refuses left faults (Refused (Earlier fault)) h = absurd h.2
+bytes_stopped most Refuses left faults (Refused (Unready stage)) h = absurd h.2
+bytes_stopped most Refuses left faults Memory h = tt
+bytes_stopped most Refuses left faults ReadFault h = h
+bytes_stopped most Refuses left faults Done h = absurd h
+bytes_stopped most Refuses left faults Usage h = absurd h
+bytes_stopped most Refuses left faults WriteFault h = absurd h
+bytes_stopped most Refuses left faults (Overflow choice step number) h = absurd h
+bytes_stopped most Refuses left faults (Limit face) h = absurd h
+
+-- what is read and refused stops the run
+module _ (most : ℕ) (left : Change (Option (List ℕ))) (faults : Change ℕ) (bytes : List ℕ) (read : ReadsAll left.before left.after bytes most) where
+  pub pair_refused : (refusal : Refusal) → IsRefusalOf bytes refusal → IsReadStop most IsRefusalOf left faults (Refused refusal)
+  pair_refused (Text fault) h = (bytes, read, h)
+  pair_refused (Pair fault) h = (bytes, read, h)
+  pair_refused (Points fault) h = (bytes, read, h)
+  pair_refused (Size limit) h = absurd h
+  pair_refused NoOutput h = absurd h
+  pair_refused (Earlier fault) h = absurd h
+  pair_refused (Unready stage) h = absurd h
+
+  pub begun_refused : (form : Form) (refusal : Refusal) → IsBegunRefusal form bytes refusal → IsReadStop most (IsBegunRefusal form) left faults (Refused refusal)
+  begun_refused form NoOutput h = (bytes, read, h)
+  begun_refused form (Text fault) h = (bytes, read, h)
+  begun_refused form (Pair fault) h = (bytes, read, h)
+  begun_refused form (Points fault) h = (bytes, read, h)
+  begun_refused form (Earlier fault) h = (bytes, read, h)
+  begun_refused form (Size limit) h = absurd h.holds
+  begun_refused form (Unready stage) h = absurd h.holds
 
 -- a line that was written to its end, or to a fault of the sink, tells the message
 pub told : (a b : Option (List ℕ)) (f h : ℕ) (r : Result (Unit {0}) LineFault) (text : List ℕ) → IfErr r (λ e. e ≡ line.Write) → WritesText a b f h r text

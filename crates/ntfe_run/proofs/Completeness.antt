@@ -9,11 +9,12 @@ use Rattle.ntfe_words.specs.declared.command.Command.TheVariants as command
 use Rattle.ntfe_words.specs.declared.command.Options.{Options}
 use Rattle.ntfe_run.specs.Edges.{Edges}
 use Rattle.ntfe_run.specs.Rooms.{Room, IsRead, IsReadInput, IsReadRefusal, IsGiven, HasCause}
-use Rattle.ntfe_run.specs.Commands.{room_of}
+use Rattle.ntfe_run.specs.Commands.{room_of, form_of_options}
 use Rattle.ntfe_run.specs.Answers.{IsUnbuilt, HasAnswer, HasAnswerCause, IsComplete}
+use Rattle.ntfe_run.proofs.BegunFixed.{begun_fixed, begun_not_refused}
 use Rattle.ntfe_run.proofs.InputsFixed.{read_fixed, not_past, input_fixed, not_refused}
 use Rattle.ntfe_run.specs.declared.status.Refusal.{Refusal}
-use Rattle.ntfe_run.specs.declared.status.Refusal.TheVariants.{Size, Text, Pair, Points, Unready}
+use Rattle.ntfe_run.specs.declared.status.Refusal.TheVariants.{Size, NoOutput, Text, Pair, Points, Earlier, Unready}
 use Rattle.ntfe_run.specs.declared.status.Status.{Status}
 use Rattle.ntfe_run.specs.declared.status.Status.TheVariants.{Done, Usage, Refused, Overflow, Limit, Memory, ReadFault, WriteFault}
 
@@ -61,13 +62,13 @@ meaning_fixed words c d h k =
 
 pub holds_once : (c : Command) (bytes : List ℕ) (i j : (room_of c).Input) → (room_of c).Holds bytes i → (room_of c).Holds bytes j → i ≡ j
 holds_once (command.Classes o) bytes i j h k = input_fixed bytes i j h k
-holds_once (command.Resume o) bytes i j h k = absurd h
+holds_once (command.Resume o) bytes i j h k = begun_fixed (form_of_options o) bytes i j h k
 holds_once command.Faces bytes i j h k = input_fixed bytes i j h k
 holds_once (command.Demo n workers width) bytes i j h k = absurd h
 
 pub not_refused_too : (c : Command) (bytes : List ℕ) (i : (room_of c).Input) (refusal : Refusal) → (room_of c).Holds bytes i → (room_of c).Refuses bytes refusal → ⊥
 not_refused_too (command.Classes o) bytes i refusal h k = not_refused bytes i refusal h k
-not_refused_too (command.Resume o) bytes i refusal h k = h
+not_refused_too (command.Resume o) bytes i refusal h k = begun_not_refused (form_of_options o) bytes i h refusal k
 not_refused_too command.Faces bytes i refusal h k = not_refused bytes i refusal h k
 not_refused_too (command.Demo n workers width) bytes i refusal h k = h
 
@@ -91,9 +92,11 @@ module _ (words : List (List ℕ)) (e : Edges) (a : HasAnswer words e) where
 
   no_refusal : (refusal : Refusal) → IsReadRefusal own e refusal → ⊥
   no_refusal (Size limit) r = not_too_long e own.limit a.can.bytes limit r.0 a.can.given r.1
+  no_refusal NoOutput r = no_refusal_of NoOutput r
   no_refusal (Text fault) r = no_refusal_of (Text fault) r
   no_refusal (Pair fault) r = no_refusal_of (Pair fault) r
   no_refusal (Points fault) r = no_refusal_of (Points fault) r
+  no_refusal (Earlier fault) r = no_refusal_of (Earlier fault) r
   no_refusal (Unready stage) r = no_refusal_of (Unready stage) r
 
   own_input : (i : own.Input) → IsReadInput own e i → i ≡ a.can.input
@@ -120,7 +123,9 @@ complete words e WriteFault (c, means, k) a n m = absurd (m k)
 complete words e (Overflow choice step number) (c, means, k) a n m = absurd (not_wide words e a choice step number (own_cause words e a c (Overflow choice step number) means k))
 complete words e (Limit face) (c, means, k) a n m = absurd (not_far words e a face (own_cause words e a c (Limit face) means k))
 complete words e (Refused (Size limit)) (c, means, k) a n m = absurd (no_refusal words e a (Size limit) (own_cause words e a c (Refused (Size limit)) means k))
+complete words e (Refused NoOutput) (c, means, k) a n m = absurd (no_refusal words e a NoOutput (own_cause words e a c (Refused NoOutput) means k))
 complete words e (Refused (Text fault)) (c, means, k) a n m = absurd (no_refusal words e a (Text fault) (own_cause words e a c (Refused (Text fault)) means k))
 complete words e (Refused (Pair fault)) (c, means, k) a n m = absurd (no_refusal words e a (Pair fault) (own_cause words e a c (Refused (Pair fault)) means k))
 complete words e (Refused (Points fault)) (c, means, k) a n m = absurd (no_refusal words e a (Points fault) (own_cause words e a c (Refused (Points fault)) means k))
+complete words e (Refused (Earlier fault)) (c, means, k) a n m = absurd (no_refusal words e a (Earlier fault) (own_cause words e a c (Refused (Earlier fault)) means k))
 complete words e (Refused (Unready stage)) c a n m = absurd (not_unbuilt words e a c.1)

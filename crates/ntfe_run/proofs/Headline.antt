@@ -3,8 +3,11 @@ use Rattle.std.proofs.Common.{◌≡◌, ◌∙◌, refl, sym, ap, subst, inl, i
 use Rattle.std.specs.Prelude.{Option}
 use Rattle.ntfe_model.specs.Lists.{IsBelow}
 use Rattle.ntfe_model.specs.Shapes.{Shape, IsShape}
+use Rattle.ntfe_model.specs.Choices.{IsChoice, Extends}
+use Rattle.ntfe_model.specs.Keys.{IsAfter}
+use Rattle.ntfe_model.specs.declared.nogood.Push.{Push}
 use Rattle.ntfe_model.specs.Stars.{IsStar, IsMember, IsFrst, Induces, order_of}
-use Rattle.ntfe_model.specs.RunText.{Form, Block, IsStarOf, IsBlockOf, IsRunText, nothing_kept}
+use Rattle.ntfe_model.specs.RunText.{Form, Block, Kept, IsStarOf, IsBlockOf, IsRunText, nothing_kept}
 use Rattle.ntfe_model.proofs.Listings.{listing_same, listing_unique}
 use Rattle.ntfe_model.proofs.Orders.{below_once}
 use Rattle.ntfe_words.specs.CommandLine.{IsMeaning}
@@ -14,7 +17,7 @@ use Rattle.ntfe_run.specs.Edges.{Edges}
 use Rattle.ntfe_run.specs.Rooms.{IsRead, TakesAll}
 use Rattle.ntfe_run.specs.Commands.{room_of, form_of_options}
 use Rattle.ntfe_run.specs.Answers.{HasRunText, HasHeadline}
-use Rattle.ntfe_run.specs.Headline.{IsInducedBlock, IsHeadlineText}
+use Rattle.ntfe_run.specs.Headline.{IsInducingStar, IsInducedBlock, IsHeadlineText}
 use Rattle.ntfe_run.specs.declared.status.Status.{Status}
 use Rattle.ntfe_run.specs.declared.status.Status.TheVariants.{Done, Usage, Refused, Overflow, Limit, Memory, ReadFault, WriteFault}
 use Rattle.ntfe_run.proofs.Completeness.{meaning_fixed}
@@ -36,36 +39,44 @@ module _ (g : Shape) (s : IsShape g) (form : Form) where
   star_shown b star k true e h = subst (λ (x : Option (List (List ℕ))). IsStarOf g form b x) (sym h) (e, k)
   star_shown b star k false e h = subst (λ (x : Option (List (List ℕ))). IsStarOf g form b x) (sym h) e
 
-  induced_block : (b : Block) → IsBlockOf g form None b → IsInducedBlock g form b
-  induced_block b k =
-      let extends = heights_extend g s b.choice b.heights k.extendable.items k.heights in
+  -- the star of heights that extend a choice, with either order of pushing
+  either_star : (b : Block) → IsChoice g b.choice → Extends g b.heights b.choice → (push : Push) → (star : List (List ℕ)) × IsInducingStar g b push star
+  either_star b items extends push =
       let n = length g.points in
-      let order = order_of form.push n in
+      let order = order_of push n in
       let lifted = star_exists g.pair.dual g.points b.heights order in
-      let fine = extended_star g b.choice b.heights order lifted.0 s k.extendable.items extends (push_order form.push n) lifted.1 in
-      record {
-        induced = record { items = k.extendable.items; star = lifted.0; frst = fine.0; induces = fine.1 };
-        heights = k.heights;
-        extends = extends;
-        star = lifted.0;
-        is_star = lifted.1;
-        frst = fine.0;
-        induces = fine.1;
-        shown = shown_star b lifted.0 lifted.1 b.star k.star;
-      }
+      let fine = extended_star g b.choice b.heights order lifted.0 s items extends (push_order push n) lifted.1 in
+      (lifted.0, record { is_star = lifted.1; frst = fine.0; induces = fine.1 })
 
-  extendable_block : (b : Block) → IsInducedBlock g form b → IsBlockOf g form None b
-  extendable_block b k = record {
-    extendable = induced_extendable g b.choice s k.induced;
-    after = tt;
-    heights = k.heights;
-    star = star_shown b k.star k.is_star form.stars refl k.shown;
-  }
+  module _ (start : Option (List ℕ)) where
+    induced_block : (b : Block) → IsBlockOf g form start b → IsInducedBlock g form b × IsAfter start b.choice
+    induced_block b k =
+        let extends = heights_extend g s b.choice b.heights k.extendable.items k.heights in
+        let either = either_star b k.extendable.items extends in
+        let own = either form.push in (
+          record {
+            induced = record { items = k.extendable.items; star = own.0; frst = own.1.frst; induces = own.1.induces };
+            heights = k.heights;
+            extends = extends;
+            star = λ push. (either push).0;
+            either = λ push. (either push).1;
+            shown = shown_star b own.0 own.1.is_star b.star k.star;
+          },
+          k.after,
+        )
 
-  headline_text : (text : List ℕ) → IsRunText g form nothing_kept None text → IsHeadlineText form g text
-  headline_text text h = record {
+    extendable_block : (b : Block) → IsInducedBlock g form b × IsAfter start b.choice → IsBlockOf g form start b
+    extendable_block b (k, after) = record {
+      extendable = induced_extendable g b.choice s k.induced;
+      after = after;
+      heights = k.heights;
+      star = star_shown b (k.star form.push) (k.either form.push).is_star form.stars refl k.shown;
+    }
+
+  headline_text : (kept : Kept) (text : List ℕ) → IsRunText g form kept None text → IsHeadlineText form g kept text
+  headline_text kept text h = record {
     blocks = h.blocks;
-    are = listing_same (λ b c. IsBelow b.choice c.choice) (IsBlockOf g form None) (IsInducedBlock g form) h.blocks h.are induced_block extendable_block;
+    are = listing_same (λ b c. IsBelow b.choice c.choice) (IsBlockOf g form kept.last) (λ b. IsInducedBlock g form b × IsAfter kept.last b.choice) h.blocks h.are (induced_block kept.last) (extendable_block kept.last);
     is = h.is;
   }
 
@@ -77,9 +88,11 @@ none_some n e = cc
 -- the whole text of a command has its headline
 room_headline : (c : Command) (bytes : List ℕ) (i : (room_of c).Input) (text : List ℕ) → (room_of c).Holds bytes i → (room_of c).IsText i text → (room_of c).IsHeadline i text
 room_headline (command.Classes o) bytes g text holds (inl run) =
-    λ none. headline_text g holds.shape (form_of_options o) text (subst (λ (l : Option ℕ). IsRunText g (form_of_options o) nothing_kept l text) none run)
+    λ none. headline_text g holds.shape (form_of_options o) nothing_kept text (subst (λ (l : Option ℕ). IsRunText g (form_of_options o) nothing_kept l text) none run)
 room_headline (command.Classes o) bytes g text holds (inr due) = λ none. let e : None ≡ Some due.limit = sym none ∙ due.limited in none_some due.limit e
-room_headline (command.Resume o) bytes i text holds is = tt
+room_headline (command.Resume o) bytes i text holds (inl run) =
+    λ none. headline_text i.geometry holds.holds.0.shape (form_of_options o) i.kept text (subst (λ (l : Option ℕ). IsRunText i.geometry (form_of_options o) i.kept l text) none run)
+room_headline (command.Resume o) bytes i text holds (inr due) = λ none. let e : None ≡ Some due.limit = sym none ∙ due.limited in none_some due.limit e
 room_headline command.Faces bytes g text holds is = tt
 room_headline (command.Demo n workers width) bytes i text holds is = tt
 

@@ -21,7 +21,7 @@ use Rattle.lattice_points.specs.declared.fault.PointFault.{PointFault}
 use Rattle.lattice_points.specs.declared.fault.PointFault.TheVariants as point
 use Rattle.ntfe_run.specs.Inputs.{IsInputOf, IsRefusalOf}
 use Rattle.ntfe_run.specs.declared.status.Refusal.{Refusal}
-use Rattle.ntfe_run.specs.declared.status.Refusal.TheVariants.{Size, Text, Pair, Points, Unready}
+use Rattle.ntfe_run.specs.declared.status.Refusal.TheVariants.{Size, NoOutput, Text, Pair, Points, Earlier, Unready}
 use Rattle.ntfe_model.proofs.Orders.{precedes_once, before_once}
 
 -- ---- what was read
@@ -107,4 +107,6 @@ not_refused bytes g (Points fault) i r =
     let e = pair_fixed r.0.pair g.pair (lines_of bytes) r.0.text i.text in
     no_point_fault g fault i.shape i.narrow r.1 (subst (λ (p : VertexLists). HasCause p fault) e r.0.holds.1)
 not_refused bytes g (Size limit) i r = r
+not_refused bytes g NoOutput i r = r
+not_refused bytes g (Earlier fault) i r = r
 not_refused bytes g (Unready stage) i r = r

@@ -2,6 +2,9 @@ pub mod Answered
 pub mod Asked
 pub mod Completeness
 pub mod InputsFixed
+pub mod BegunFixed
+pub mod BegunStops
+pub mod KeptStarts
 pub mod ListEnds
 pub mod NumberedLines
 pub mod HeightsExtend

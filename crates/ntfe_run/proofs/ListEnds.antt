@@ -17,7 +17,8 @@ use Rattle.steal_workers.specs.declared.served.Served.{Served}
 use Rattle.steal_workers.specs.declared.served.Served.TheVariants as served
 use Rattle.steal_workers.proofs.NextBlocks.{no_blocks}
 use Rattle.ntfe_run.specs.Rooms.{Takes, TakesPrefix, IsAnswer}
-use Rattle.ntfe_run.specs.Commands.{IsListText, IsListBegun, listed_with, classes_room}
+use Rattle.ntfe_run.specs.Commands.{IsListText, IsListBegun, listed_with, classes_room, resume_room}
+use Rattle.ntfe_run.specs.Earlier.{Begun}
 use Rattle.ntfe_run.specs.Statuses.{kept_of, head_of, IsListEnd, WritesLine, WritesLast, status_of_lines, status_of_end}
 use Rattle.ntfe_run.specs.declared.status.Status.{Status}
 use Rattle.ntfe_run.specs.declared.status.Status.TheVariants.{Done, Usage, Refused, Overflow, Limit, Memory, ReadFault, WriteFault}
@@ -151,7 +152,7 @@ module _ (l : Listed) (bytes : ℕ) where
     served_end served.WriteFault w cause status k = as_it_was served.WriteFault status (part_begun a b c took w, cause refl) k
     served_end served.Memory w cause status k = as_it_was served.Memory status (part_begun a b c took w) k
 
--- ---- from a list to the answer of `classes`
+-- ---- from a list to the answer of a command
 
 pub list_answer : (o : Options) (g : Shape) (taken : Change (Option (List ℕ))) (faults : Change ℕ) (status : Status) → IsListEnd (listed_with o g nothing_kept) 0 taken faults status → IsAnswer (classes_room o) g taken faults status
 list_answer o g taken faults Done h = h
@@ -162,3 +163,13 @@ list_answer o g taken faults (Limit face) h = h
 list_answer o g taken faults Usage h = h
 list_answer o g taken faults (Refused refusal) h = h
 list_answer o g taken faults ReadFault h = h
+
+pub rest_answer : (o : Options) (i : Begun) (taken : Change (Option (List ℕ))) (faults : Change ℕ) (status : Status) → IsListEnd (listed_with o i.geometry i.kept) i.kept.bytes taken faults status → IsAnswer (resume_room o) i taken faults status
+rest_answer o i taken faults Done h = h
+rest_answer o i taken faults Memory h = h
+rest_answer o i taken faults WriteFault h = h
+rest_answer o i taken faults (Overflow choice step number) h = h
+rest_answer o i taken faults (Limit face) h = h
+rest_answer o i taken faults Usage h = h
+rest_answer o i taken faults (Refused refusal) h = h
+rest_answer o i taken faults ReadFault h = h

@@ -9,12 +9,17 @@ use Rattle.ntfe_words.specs.declared.command.Command.TheVariants as command
 use Rattle.ntfe_words.specs.declared.command.Options.{Options}
 use Rattle.steal_workers.specs.Listings.{Listed, AreBlocksTo, IsWithinLimit}
 use Rattle.ntfe_run.specs.Inputs.{IsInputOf, IsRefusalOf}
+use Rattle.ntfe_run.specs.Earlier.{Begun, IsBegunInput, IsBegunRefusal}
 use Rattle.ntfe_run.specs.Headline.{IsHeadlineText}
 use Rattle.ntfe_run.specs.Rooms.{Room}
 
 -- the greatest number of bytes that are read of a pair
 abbrev pub input_limit : ℕ
 input_limit = 65536
+
+-- and of a pair with an earlier output
+abbrev pub begun_limit : ℕ
+begun_limit = 67_108_864
 
 -- ---- a list of classes
 
@@ -63,7 +68,23 @@ classes_room o = record {
   IsWide = λ g choice step number. MayOverflow g None o.width choice step number;
   IsFar = λ g face key. MayLimit g None o.width face key;
   IsStopped = λ g bound text. IsStoppedText g (form_of_options o) nothing_kept o.limit bound text;
-  IsHeadline = λ g text. o.limit ≡ None → IsHeadlineText (form_of_options o) g text;
+  IsHeadline = λ g text. o.limit ≡ None → IsHeadlineText (form_of_options o) g nothing_kept text;
+}
+
+-- `resume`: the text goes on after what is kept of an earlier output
+abbrev pub resume_room : Options → Room
+resume_room o = record {
+  IsBuilt = ⊤;
+  limit = Some begun_limit;
+  Input = Begun;
+  Holds = IsBegunInput (form_of_options o);
+  Refuses = IsBegunRefusal (form_of_options o);
+  IsText = λ i text. IsListText (listed_with o i.geometry i.kept) i.kept text;
+  IsBegun = λ i text. IsListBegun (listed_with o i.geometry i.kept) i.kept text;
+  IsWide = λ i choice step number. MayOverflow i.geometry i.kept.last o.width choice step number;
+  IsFar = λ i face key. MayLimit i.geometry i.kept.last o.width face key;
+  IsStopped = λ i bound text. IsStoppedText i.geometry (form_of_options o) i.kept o.limit bound text;
+  IsHeadline = λ i text. o.limit ≡ None → IsHeadlineText (form_of_options o) i.geometry i.kept text;
 }
 
 -- ---- the points and two-faces
@@ -103,6 +124,6 @@ unbuilt_room = record {
 
 abbrev pub room_of : Command → Room
 room_of (command.Classes o) = classes_room o
-room_of (command.Resume o) = unbuilt_room
+room_of (command.Resume o) = resume_room o
 room_of command.Faces = faces_room
 room_of (command.Demo n workers width) = unbuilt_room

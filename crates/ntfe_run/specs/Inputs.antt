@@ -10,7 +10,7 @@ use Rattle.reflexive_pair.specs.Causes.{HasFault}
 use Rattle.lattice_points.specs.Faults.{HasFewColumns, HasCause as HasPointCause}
 use Rattle.lattice_points.specs.declared.fault.PointFault.TheVariants as point
 use Rattle.ntfe_run.specs.declared.status.Refusal.{Refusal}
-use Rattle.ntfe_run.specs.declared.status.Refusal.TheVariants.{Size, Text, Pair, Points, Unready}
+use Rattle.ntfe_run.specs.declared.status.Refusal.TheVariants.{Size, NoOutput, Text, Pair, Points, Earlier, Unready}
 use Rattle.ntfe_run.specs.declared.inputs.Stop.{Stop}
 use Rattle.ntfe_run.specs.declared.inputs.Stop.TheVariants.{Refused, Memory}
 
@@ -26,13 +26,12 @@ pub record HoldPair (bytes : List ℕ) (P : VertexLists → Type 0) : Type 0 whe
   pub text : IsPairText bytes pair
   pub holds : P pair
 
--- why bytes are refused: in the order text, pair, points. The refusals of other causes are none of these
+-- why bytes are refused: in the order text, pair, points
 abbrev pub IsRefusalOf : List ℕ → Refusal → Type 0
 IsRefusalOf bytes (Text fault) = HasTextCause bytes fault × (fault ≢ text.Memory)
 IsRefusalOf bytes (Pair fault) = HoldPair bytes (λ p. HasFault p fault)
 IsRefusalOf bytes (Points fault) = HoldPair bytes (λ p. IsReflexive p × HasPointCause p fault) × (fault ≢ point.Memory)
-IsRefusalOf bytes (Size limit) = ⊥
-IsRefusalOf bytes (Unready stage) = ⊥
+IsRefusalOf bytes refusal = ⊥
 
 abbrev pub IsStopOf : List ℕ → Stop → Type 0
 IsStopOf bytes (Refused refusal) = IsRefusalOf bytes refusal

@@ -4,6 +4,7 @@ pub mod Commands
 pub mod Answers
 pub mod Headline
 pub mod Inputs
+pub mod Earlier
 pub mod Codes
 pub mod Messages
 pub mod Parts

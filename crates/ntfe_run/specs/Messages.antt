@@ -11,8 +11,10 @@ use Rattle.reflexive_pair.specs.declared.fault.PairFault.{PairFault}
 use Rattle.reflexive_pair.specs.declared.fault.PairFault.TheVariants as pair
 use Rattle.lattice_points.specs.declared.fault.PointFault.{PointFault}
 use Rattle.lattice_points.specs.declared.fault.PointFault.TheVariants as point
+use Rattle.class_text.specs.declared.earlier_fault.EarlierFault.{EarlierFault}
+use Rattle.class_text.specs.declared.earlier_fault.EarlierFault.TheVariants as earlier
 use Rattle.ntfe_run.specs.declared.status.Refusal.{Refusal}
-use Rattle.ntfe_run.specs.declared.status.Refusal.TheVariants.{Size, Text, Pair, Points, Unready}
+use Rattle.ntfe_run.specs.declared.status.Refusal.TheVariants.{Size, NoOutput, Text, Pair, Points, Earlier, Unready}
 use Rattle.ntfe_run.specs.declared.status.Status.{Status}
 use Rattle.ntfe_run.specs.declared.status.Status.TheVariants.{Done, Usage, Refused, Overflow, Limit, Memory, ReadFault, WriteFault}
 
@@ -51,11 +53,22 @@ point_message (point.TooWide columns) = codes "box of " ++ (decimal columns ++ c
 point_message (point.TooMany count) = decimal count ++ codes " points"
 point_message point.Memory = out_of_memory
 
+-- `earlier output line L` and what is wrong with it
+abbrev pub earlier_line_message : ℕ → List ℕ → List ℕ
+earlier_line_message number what = codes "earlier output line " ++ (decimal number ++ what)
+
+abbrev pub earlier_message : EarlierFault → List ℕ
+earlier_message (earlier.Head line) = earlier_line_message line (codes ": head differs")
+earlier_message (earlier.Body line) = earlier_line_message line (codes ": not in place")
+earlier_message earlier.Memory = out_of_memory
+
 abbrev pub refusal_message : Refusal → List ℕ
 refusal_message (Size limit) = codes "input over " ++ (decimal limit ++ codes " bytes")
+refusal_message NoOutput = codes "no output line"
 refusal_message (Text fault) = text_message fault
 refusal_message (Pair fault) = pair_message fault
 refusal_message (Points fault) = point_message fault
+refusal_message (Earlier fault) = earlier_message fault
 refusal_message (Unready stage) = codes "not built: stage " ++ decimal stage
 
 -- the numbers, one space before each

@@ -8,11 +8,14 @@ use Rattle.io_edge.specs.declared.line_fault.LineFault.TheVariants as line
 use Rattle.io_edge.specs.Lines.{WritesText}
 use Rattle.ntfe_model.specs.Shapes.{Shape}
 use Rattle.ntfe_model.specs.Keys.{MayOverflow, MayLimit}
-use Rattle.ntfe_model.specs.RunText.{Kept, IsStoppedText, head_due, end_line, limit_line}
+use Rattle.ntfe_model.specs.RunText.{Form, Kept, IsStoppedText, head_due, end_line, limit_line}
 use Rattle.steal_workers.specs.Listings.{Listed}
 use Rattle.steal_workers.specs.declared.served.Served.{Served}
 use Rattle.steal_workers.specs.declared.served.Served.TheVariants as served
-use Rattle.ntfe_run.specs.Commands.{input_limit, IsListText, IsListBegun}
+use Rattle.class_text.specs.Earlier as earlier
+use Rattle.ntfe_run.specs.Earlier.{Begun, IsBegunInput}
+use Rattle.ntfe_run.specs.declared.commands.resume.Resumed.{Resumed}
+use Rattle.ntfe_run.specs.Commands.{input_limit, begun_limit, IsListText, IsListBegun}
 use Rattle.ntfe_run.specs.Inputs.{IsInputOf, IsRefusalOf}
 use Rattle.ntfe_run.specs.Rooms.{Takes, TakesPrefix}
 use Rattle.ntfe_run.specs.declared.status.Refusal.{Refusal}
@@ -20,21 +23,32 @@ use Rattle.ntfe_run.specs.declared.status.Refusal.TheVariants.{Size}
 use Rattle.ntfe_run.specs.declared.status.Status.{Status}
 use Rattle.ntfe_run.specs.declared.status.Status.TheVariants.{Done, Usage, Refused, Overflow, Limit, Memory, ReadFault, WriteFault}
 
--- ---- the reading of a pair
+-- ---- the reading of an input
 
 abbrev pub IsPairRead : Change (Option (List ℕ)) → Shape → Type 0
 IsPairRead left g = (bytes : List ℕ) × ReadsAll left.before left.after bytes input_limit × IsInputOf bytes g
 
-abbrev pub IsPairRefusal : Change (Option (List ℕ)) → Refusal → Type 0
-IsPairRefusal left (Size limit) = (limit ≡ input_limit) × ReadsPast left.before left.after input_limit
-IsPairRefusal left refusal = (bytes : List ℕ) × ReadsAll left.before left.after bytes input_limit × IsRefusalOf bytes refusal
+-- what a pair and an earlier output are as an input
+abbrev pub begun_input : Resumed → Begun
+begun_input b = record { geometry = b.geometry; kept = earlier.kept_of b.earlier }
 
--- why no pair was read
-abbrev pub IsReadStop : Change (Option (List ℕ)) → Change ℕ → Status → Type 0
-IsReadStop left faults (Refused refusal) = IsPairRefusal left refusal
-IsReadStop left faults Memory = ⊤
-IsReadStop left faults ReadFault = Rose faults.before faults.after
-IsReadStop left faults status = ⊥
+abbrev pub IsBegunRead : Form → Change (Option (List ℕ)) → Resumed → Type 0
+IsBegunRead form left b = (bytes : List ℕ) × ReadsAll left.before left.after bytes begun_limit × IsBegunInput form bytes (begun_input b)
+
+-- why no input of at most so many bytes was read
+abbrev pub IsInputRefusal : ℕ → (List ℕ → Refusal → Type 0) → Change (Option (List ℕ)) → Refusal → Type 0
+IsInputRefusal most Refuses left (Size limit) = (limit ≡ most) × ReadsPast left.before left.after most
+IsInputRefusal most Refuses left refusal = (bytes : List ℕ) × ReadsAll left.before left.after bytes most × Refuses bytes refusal
+
+abbrev pub IsReadStop : ℕ → (List ℕ → Refusal → Type 0) → Change (Option (List ℕ)) → Change ℕ → Status → Type 0
+IsReadStop most Refuses left faults (Refused refusal) = IsInputRefusal most Refuses left refusal
+IsReadStop most Refuses left faults Memory = ⊤
+IsReadStop most Refuses left faults ReadFault = Rose faults.before faults.after
+IsReadStop most Refuses left faults status = ⊥
+
+-- the bytes were not read to their end
+abbrev pub IsByteStop : ℕ → Change (Option (List ℕ)) → Change ℕ → Status → Type 0
+IsByteStop most left faults status = IsReadStop most (λ bytes refusal. ⊥) left faults status
 
 -- ---- the writing of lines
 

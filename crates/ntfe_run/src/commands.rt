@@ -2,3 +2,4 @@
 
 pub mod classes;
 pub mod faces;
+pub mod resume;

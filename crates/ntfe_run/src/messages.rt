@@ -2,11 +2,12 @@
 ghost use Rattle.std.specs.Prelude.{◌≡◌, ◌++◌, codes, decimal, IfErr};
 ghost use Rattle.io_edge.specs.Lines.{WritesText};
 ghost use Rattle.ntfe_model.specs.RunText.{spaced};
-ghost use Rattle.ntfe_run.specs.Messages.{spaced_numbers, overflow_head, overflow_message, limit_message, line_message, equal_message, text_message, pair_message, point_message, refusal_message, answer_message, message_line};
+ghost use Rattle.ntfe_run.specs.Messages.{spaced_numbers, overflow_head, overflow_message, limit_message, line_message, equal_message, text_message, pair_message, point_message, earlier_line_message, earlier_message, refusal_message, answer_message, message_line};
 
 use crate::part::Part::{Number, Signed, Text};
 use crate::part::write_parts;
 use crate::status::{Refusal, Status};
+use class_text::EarlierFault;
 use io_edge::{LineFault, Sink, write_text};
 use lattice_points::PointFault;
 use pair_text::TextFault;
@@ -141,6 +142,33 @@ fn write_point_message<E: Sink>(fault: &PointFault, err: &mut E) -> Result<(), L
     }
 }
 
+/// Writes what is wrong with a line of the earlier output.
+fn write_earlier_line<E: Sink>(number: u32, what: &str, err: &mut E) -> Result<(), LineFault>
+    ensures text { WritesText (E.taken err.old) (E.taken err.new) (E.faults err.old) (E.faults err.new) result (earlier_line_message number what.now) }
+    ensures fault { IfErr result (λ e. e ≡ LineFault.Write) }
+{
+    write_parts(
+        &[
+            Text("earlier output line "),
+            Number(u64::from(number)),
+            Text(what),
+        ],
+        err,
+    )
+}
+
+/// Writes why the earlier output does not go with the run.
+fn write_earlier_message<E: Sink>(fault: EarlierFault, err: &mut E) -> Result<(), LineFault>
+    ensures text { WritesText (E.taken err.old) (E.taken err.new) (E.faults err.old) (E.faults err.new) result (earlier_message fault) }
+    ensures fault { IfErr result (λ e. e ≡ LineFault.Write) }
+{
+    match fault {
+        EarlierFault::Head { line } => write_earlier_line(line, ": head differs", err),
+        EarlierFault::Body { line } => write_earlier_line(line, ": not in place", err),
+        EarlierFault::Memory => write_text("out of memory", err),
+    }
+}
+
 /// Writes why the input was refused.
 fn write_refusal_message<E: Sink>(refusal: &Refusal, err: &mut E) -> Result<(), LineFault>
     ensures text { WritesText (E.taken err.old) (E.taken err.new) (E.faults err.old) (E.faults err.new) result (refusal_message refusal.now) }
@@ -155,9 +183,11 @@ fn write_refusal_message<E: Sink>(refusal: &Refusal, err: &mut E) -> Result<(), 
             ],
             err,
         ),
+        Refusal::NoOutput => write_text("no output line", err),
         Refusal::Text(fault) => write_text_message(*fault, err),
         Refusal::Pair(fault) => write_pair_message(*fault, err),
         Refusal::Points(fault) => write_point_message(fault, err),
+        Refusal::Earlier(fault) => write_earlier_message(*fault, err),
         Refusal::Unready { stage } => {
             write_parts(&[Text("not built: stage "), Number(u64::from(*stage))], err)
         }

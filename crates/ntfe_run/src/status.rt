@@ -3,6 +3,7 @@ ghost use Rattle.std.specs.Prelude.{◌≡◌};
 ghost use Rattle.ntfe_run.specs.Codes.{code_of};
 ghost use Rattle.ntfe_run.specs.Statuses.{status_of_lines as lines_status};
 
+use class_text::EarlierFault;
 use io_edge::LineFault;
 use lattice_points::PointFault;
 use ntfe_model::Choice;
@@ -14,12 +15,16 @@ use reflexive_pair::PairFault;
 pub enum Refusal {
     /// The source gave one byte more than this many.
     Size { limit: u32 },
+    /// No line's only field is `output`.
+    NoOutput,
     /// The bytes are no pair text.
     Text(TextFault),
     /// The pair is not reflexive.
     Pair(PairFault),
     /// The polytope's box is too wide, or it has too many points.
     Points(PointFault),
+    /// The earlier output does not go with the run.
+    Earlier(EarlierFault),
     /// The program does not answer this yet.
     Unready { stage: u8 },
 }

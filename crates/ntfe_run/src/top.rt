@@ -5,6 +5,7 @@ ghost use Rattle.ntfe_run.specs.Messages.{message_line, TellsMessage};
 
 use crate::commands::classes::list_classes;
 use crate::commands::faces::list_faces;
+use crate::commands::resume::resume_classes;
 use crate::messages::write_message;
 use crate::status::{Refusal, Status};
 use io_edge::{Gate, Sink, Source};
@@ -32,7 +33,7 @@ fn answer<S: Source, K: Sink>(
       taken = record { before = K.taken out.old; after = K.taken out.new };
       write_faults = record { before = K.faults out.old; after = K.faults out.new };
     }) result }
-    ensures turns { S.turns source.new ≤ S.turns source.old + 65538 }
+    ensures turns { S.turns source.new ≤ S.turns source.old + 67108866 }
     ensures few { HasFewTurns (map string_bytes words.now) (record { before = S.turns source.old; after = S.turns source.new }) }
 {
     let command = match read_words(alloc, words) {
@@ -43,9 +44,8 @@ fn answer<S: Source, K: Sink>(
     match command {
         Command::Classes(options) => list_classes(alloc, &options, source, out),
         Command::Faces => list_faces(alloc, source, out),
-        Command::Resume(_) | Command::Demo { .. } => {
-            Status::Refused(Refusal::Unready { stage: 6 })
-        }
+        Command::Resume(options) => resume_classes(alloc, &options, source, out),
+        Command::Demo { .. } => Status::Refused(Refusal::Unready { stage: 6 }),
     }
 }
 
@@ -64,7 +64,7 @@ pub fn run_alone<S: Source, K: Sink, E: Sink>(
       taken = record { before = K.taken out.old; after = K.taken out.new };
       write_faults = record { before = K.faults out.old; after = K.faults out.new };
     }) result }
-    ensures turns { S.turns source.new ≤ S.turns source.old + 65538 }
+    ensures turns { S.turns source.new ≤ S.turns source.old + 67108866 }
     ensures few { HasFewTurns (map string_bytes words.now) (record { before = S.turns source.old; after = S.turns source.new }) }
     ensures message { TellsMessage (record { before = E.taken err.old; after = E.taken err.new }) (record { before = E.faults err.old; after = E.faults err.new }) (message_line result) }
 {
@@ -112,7 +112,7 @@ pub fn run<R: Threads + Wait + Sync, S: Source, K: Sink, E: Sink, G: Gate + Sync
       taken = record { before = K.taken out.old; after = K.taken out.new };
       write_faults = record { before = K.faults out.old; after = K.faults out.new };
     }) result }
-    ensures turns { S.turns source.new ≤ S.turns source.old + 65538 }
+    ensures turns { S.turns source.new ≤ S.turns source.old + 67108866 }
     ensures few { HasFewTurns (map string_bytes words.now) (record { before = S.turns source.old; after = S.turns source.new }) }
     ensures message { TellsMessage (record { before = E.taken err.old; after = E.taken err.new }) (record { before = E.faults err.old; after = E.faults err.new }) (message_line result) }
 {

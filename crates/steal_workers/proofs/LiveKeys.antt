@@ -17,7 +17,7 @@ use Rattle.choice_board.specs.declared.verdict.Verdict.TheVariants.{End, Pruned,
 use Rattle.choice_board.specs.declared.record.Record.{Record}
 use Rattle.choice_board.specs.declared.record.Found.TheVariants.{Class as FoundClass, Wide as FoundWide, Far as FoundFar}
 use Rattle.choice_board.proofs.PlaceLemmas.{stem_length, key_parts, raised_length, below_raised, below_first}
-use Rattle.choice_board.proofs.RowLemmas.{Contains-from_map}
+use Rattle.ntfe_model.proofs.Lists.{Contains-from_map}
 use Rattle.steal_workers.specs.Listings.{Listed}
 use Rattle.steal_workers.specs.Boards.{IsLiveRecord}
 use Rattle.steal_workers.specs.Probing.{IsProbed}

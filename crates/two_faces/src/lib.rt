@@ -1,12 +1,12 @@
 //! The two-faces of a reflexive polytope, and its geometry.
 #![tactic(auto)]
 
-#[cfg(test)]
 mod geometries;
 mod list;
 mod meet;
 mod numbers;
 mod plane;
+#[cfg(test)]
 mod tests;
 
 pub use geometries::geometry;

@@ -1,23 +1,32 @@
 //! `classes`: the classes of a pair.
 ghost use Rattle.std.specs.Prelude.{◌≡◌, ◌≤◌, ◌+◌, IfOk};
 ghost use Rattle.steal_workers.specs.Forms.{IsFormOf};
-ghost use Rattle.ntfe_run.specs.Commands.{classes_room};
-ghost use Rattle.ntfe_run.specs.Rooms.{IsAnswer, IsAnswered};
+ghost use Rattle.ntfe_model.specs.Keys.{IsStart};
+ghost use Rattle.ntfe_model.specs.RunText.{nothing_kept};
+ghost use Rattle.class_text.specs.Earlier.{kept_of};
+ghost use Rattle.ntfe_run.specs.Commands.{classes_room, listed_with};
+ghost use Rattle.ntfe_run.specs.Statuses.{IsListEnd};
+ghost use Rattle.ntfe_run.specs.Rooms.{IsAnswered};
 
 use crate::listing::write_list;
 use crate::reading::read_geometry;
 use crate::status::Status;
-use class_text::TextForm;
+use class_text::{Earlier, TextForm};
 use io_edge::{Sink, Source};
 use ntfe_model::Geometry;
 use ntfe_words::Options;
 use std::alloc::{AllocError, Global};
 use steal_workers::Listing;
 
-/// What the text depends on beside the classes, where nothing is kept.
-fn text_form(alloc: Global, options: &Options, geometry: &Geometry) -> Result<TextForm, AllocError>
+/// What the text depends on beside the classes, where so many blocks are kept.
+pub fn text_form(
+    alloc: Global,
+    options: &Options,
+    geometry: &Geometry,
+    kept: u64,
+) -> Result<TextForm, AllocError>
     ensures form { IfOk result (λ f. IsFormOf geometry.now f) }
-    ensures options { IfOk result (λ f. (f.push ≡ options.now.push) × (f.stars ≡ options.now.stars) × (f.kept ≡ 0)) }
+    ensures options { IfOk result (λ f. (f.push ≡ options.now.push) × (f.stars ≡ options.now.stars) × (f.kept ≡ kept)) }
 {
     let pair = geometry.pair().try_clone(alloc)?;
     Ok(TextForm {
@@ -26,27 +35,39 @@ fn text_form(alloc: Global, options: &Options, geometry: &Geometry) -> Result<Te
         stars: options.stars,
         points: geometry.points().len() as u32,
         faces: geometry.faces().len() as u32,
-        kept: 0,
+        kept,
     })
 }
 
-/// Writes the text of the classes.
-fn write_classes<K: Sink>(
+/// Writes the text of the classes behind what is kept of an earlier output.
+pub fn write_classes<K: Sink>(
     alloc: Global,
     options: &Options,
     geometry: &Geometry,
+    earlier: &Earlier,
     out: &mut K,
 ) -> Status
     requires low { 1 ≤ options.now.width }
     requires high { options.now.width ≤ 62 }
-    ensures { IsAnswer (classes_room options.now) geometry.now (record { before = K.taken out.old; after = K.taken out.new }) (record { before = K.faults out.old; after = K.faults out.new }) result }
+    requires start { IsStart geometry.now earlier.now.last }
+    ensures { IsListEnd (listed_with options.now geometry.now (kept_of earlier.now)) earlier.now.kept (record { before = K.taken out.old; after = K.taken out.new }) (record { before = K.faults out.old; after = K.faults out.new }) result }
 {
-    let Ok(form) = text_form(alloc, options, geometry) else {
+    let Ok(form) = text_form(alloc, options, geometry, earlier.count) else {
         return Status::Memory;
     };
-    let start = None;
-    let listing = Listing::new(geometry, &form, &start, options.limit, options.width);
-    write_list(alloc, &listing, true, out)
+    let listing = Listing::new(geometry, &form, &earlier.last, options.limit, options.width);
+    write_list(alloc, &listing, earlier.kept == 0, out)
+}
+
+/// What is kept where there is no earlier output.
+fn nothing_kept() -> Earlier
+    ensures { kept_of result ≡ nothing_kept }
+{
+    Earlier {
+        kept: 0,
+        last: None,
+        count: 0,
+    }
 }
 
 /// Reads a pair, and writes the text of its classes. The width is from 1 to 62.
@@ -67,7 +88,7 @@ pub fn list_classes<S: Source, K: Sink>(
     ensures turns { S.turns source.new ≤ S.turns source.old + 65538 }
 {
     match read_geometry(alloc, source) {
-        Ok(geometry) => write_classes(alloc, options, &geometry, out),
+        Ok(geometry) => write_classes(alloc, options, &geometry, &nothing_kept(), out),
         Err(status) => status,
     }
 }

@@ -109,10 +109,38 @@ fn numbers_that_are_too_wide(rt: HostRuntime) -> Result<(), AllocError> {
     Ok(())
 }
 
+/// Resumes the simplex, where an earlier run wrote its head and these bytes.
+fn resumed(alloc: Global, behind: &str) -> Result<Outcome, AllocError> {
+    let mut text = String::from_str(alloc, SIMPLEX)?;
+    text.push_str("output\nntfe 1\n")?;
+    text.push_str(SIMPLEX)?;
+    text.push_str(behind)?;
+    run_on(alloc, &["resume"], &text, 9999)
+}
+
 #[test]
-fn what_is_not_built(rt: HostRuntime) -> Result<(), AllocError> {
-    let refused = run_on(rt.alloc(), &["resume"], "", 9999)?;
+fn a_list_that_was_cut_in_its_last_line(rt: HostRuntime) -> Result<(), AllocError> {
+    let rest = resumed(
+        rt.alloc(),
+        "push up\nclass 0 0 0 0 0 0 0 0 0 0\nheights 0 0 0 0 0\nen",
+    )?;
+    assert!(rt; rest.code == 0);
+    assert!(rt; rest.out.bytes() == b"end 1\n".as_slice());
+    Ok(())
+}
+
+#[test]
+fn an_earlier_output_of_another_order(rt: HostRuntime) -> Result<(), AllocError> {
+    let refused = resumed(rt.alloc(), "push down\n")?;
     assert!(rt; refused.code == 3);
-    assert!(rt; refused.err.bytes() == b"ntfe: not built: stage 6\n".as_slice());
+    assert!(rt; refused.err.bytes() == b"ntfe: earlier output line 14: head differs\n".as_slice());
+    Ok(())
+}
+
+#[test]
+fn no_earlier_output(rt: HostRuntime) -> Result<(), AllocError> {
+    let refused = run_on(rt.alloc(), &["resume"], SIMPLEX, 9999)?;
+    assert!(rt; refused.code == 3);
+    assert!(rt; refused.err.bytes() == b"ntfe: no output line\n".as_slice());
     Ok(())
 }
