@@ -9,3 +9,5 @@ pub mod Solutions
 pub mod FindingLemmas
 pub mod ShelfLemmas
 pub mod Lifted
+pub mod StemLemmas
+pub mod FollowedLemmas

@@ -90,7 +90,7 @@ module _ (g : Shape) (s : IsShape g) (key : List ℕ) (at_most : length key ≤ 
       at_least : (x y : ℤ) → x ≡ y → pos 0 <ℤ y → pos 1 ≤ℤ x
       at_least x y q p = omega (arith, ints, q, p)
 
-  certificate_is : IsCertificate g n
+  pub certificate_is : IsCertificate g n
   certificate_is = record {
     rising = h.rising;
     items = λ k d l.

@@ -14,6 +14,7 @@ use Rattle.strict_solver.specs.Answers.{Answer}
 use Rattle.strict_solver.specs.Answers.Answer.{feasible, infeasible}
 use Rattle.strict_solver.specs.Solving.{AreMultipliers, HasSolved, HasMeaning}
 use Rattle.strict_solver.specs.declared.run.Solved.TheVariants.{Feasible, Infeasible, Wide}
+use Rattle.strict_solver.proofs.Meaning.{above}
 use Rattle.strict_solver.proofs.Agree.{one_answer}
 use Rattle.strict_solver.proofs.Determined.{infeasible_not_wide}
 use Rattle.node_probe.specs.Heads.{AreHeadRows}
@@ -65,6 +66,26 @@ module _ (g : Shape) (s : IsShape g) (key : List ℕ) (rs : List Fold) (faces : 
     where
       positive : (z : ℤ) → pos 1 ≤ℤ z → pos 0 <ℤ z
       positive z l = omega (arith, ints, l)
+
+  -- the same of heights without a width
+  pub open_class : AllItemsExist g key → last_number key < item_limit g → (at_most : length key ≤ length g.faces) → length key ≡ length g.faces → (w : List ℤ)
+      → IsFeasible (length g.points) (map (fold_row (length g.points)) rs) None w → IsClass g key w
+  open_class items near at_most faces_are w h =
+      let k = above (length g.points) rs None w (folds_over at_most) h in (
+        record { faces = faces_are; items = λ f l. items f (omega (arith, l, faces_are)) },
+        near,
+        folds_extend g s w k.0 key faces_are rs rows.folds (All-weaker (λ f. pos 1 ≤ℤ fold_value w f) (λ f. pos 0 <ℤ fold_value w f) (λ f l. positive (fold_value w f) l) rs k.1),
+        (rs, rows.folds, h),
+      )
+    where
+      positive : (z : ℤ) → pos 1 ≤ℤ z → pos 0 <ℤ z
+      positive z l = omega (arith, ints, l)
+
+  pub open_not_refuted : (width : ℕ) (w : List ℤ) → IsFeasible (length g.points) (map (fold_row (length g.points)) rs) None w → IsRefutedAt g width key → ⊥
+  open_not_refuted width w h (qs, ms, folds, k) =
+      let e = head_folds_fixed g 0 key qs rs folds rows.folds in
+      let P : List Fold → Type 0 = λ ts. IsInfeasible (length g.points) (map (fold_row (length g.points)) ts) (Some width) ms in
+      one_answer (length g.points) (map (fold_row (length g.points)) rs) None (Some width) w ms h (subst P e k)
 
   -- where it finds heights, or is wide, it is not infeasible
   pub not_refuted : (width : ℕ) (w : List ℤ) → IsFeasible (length g.points) (map (fold_row (length g.points)) rs) (Some width) w → IsRefutedAt g width key → ⊥

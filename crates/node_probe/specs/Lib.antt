@@ -3,3 +3,5 @@ pub mod Refutations
 pub mod Findings
 pub mod Lifted
 pub mod Shelves
+pub mod Stems
+pub mod Followed

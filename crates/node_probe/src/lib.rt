@@ -4,12 +4,15 @@
 mod assembling;
 mod fetching;
 mod finding;
+mod following;
 mod head;
 mod heights;
 mod probing;
 mod shelf;
 mod solving;
+mod stems;
 
 pub use finding::Finding;
-pub use probing::{probe, probe_shelved};
+pub use probing::{probe, probe_following, probe_shelved};
 pub use shelf::Shelf;
+pub use stems::Stems;

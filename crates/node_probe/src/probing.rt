@@ -8,11 +8,14 @@ ghost use Rattle.nogood_set.specs.Blocking.{NoneBlocks};
 ghost use Rattle.node_probe.specs.Heads.{KeepsHead};
 ghost use Rattle.node_probe.specs.Shelves.{patches};
 ghost use Rattle.node_probe.specs.Findings.{IsWithin, IsFinding};
+ghost use Rattle.node_probe.specs.Followed.{IsFoundTrue};
 
 use crate::fetching::fetch_head;
 use crate::finding::Finding;
+use crate::following::judge_following;
 use crate::shelf::Shelf;
 use crate::solving::judge_head;
+use crate::stems::Stems;
 use nogood_set::NogoodSet;
 use ntfe_model::{Book, Geometry, ITEM_LIMIT, Key};
 use std::alloc::{AllocError, Global};
@@ -94,6 +97,51 @@ pub fn probe_shelved<B: Book>(
     }
     let rows = shelf.head_rows(alloc, key, book)?;
     let finding = judge_head(alloc, geometry, columns, key, &rows, shelf, tableau, width)?;
+    shelf.take_back(rows);
+    Ok(finding)
+}
+
+/// What is found at a key of the geometry, as [`probe_shelved`] has it, but that a key whose folds cancel has some certificate
+/// that blocks it, and that at the greatest width a choice is a class wherever its heights are found, the numbers of the solver
+/// being wide or not. The stems are those of the key that was probed before: as far as its two-faces have the same items,
+/// nothing is done again.
+///
+/// # Errors
+/// `AllocError` where memory is short.
+pub fn probe_following<B: Book>(
+    alloc: Global,
+    geometry: &Geometry,
+    key: &Key,
+    book: &mut B,
+    shelf: &mut Shelf,
+    set: &NogoodSet,
+    stems: &mut Stems,
+    tableau: &mut Tableau,
+    width: u8,
+) -> Result<Finding, AllocError>
+    requires key { IsKey geometry.now key.now }
+    requires shape { B.shape book.old ≡ geometry.now }
+    requires set { All (IsCertificate geometry.now) set.now }
+    requires patches { shelf.old ≡ patches geometry.now }
+    requires columns { tableau.old.columns ≡ length geometry.now.points }
+    requires stems { stems.old.columns ≡ length geometry.now.points }
+    requires low { 1 ≤ width }
+    requires high { width ≤ 62 }
+    ensures shape { B.shape book.new ≡ B.shape book.old }
+    ensures kept { KeepsAll (B.keeps book.old) (B.keeps book.new) }
+    ensures patches { shelf.new ≡ shelf.old }
+    ensures columns { tableau.new.columns ≡ tableau.old.columns }
+    ensures stems { stems.new.columns ≡ stems.old.columns }
+    ensures finding { IfOk result (IsFoundTrue geometry.now width key.now set.now) }
+{
+    let columns = geometry.points().len() as u32;
+    if let Some(finding) = found_before(geometry, key, book, set)? {
+        return Ok(finding);
+    }
+    let rows = shelf.head_rows(alloc, key, book)?;
+    let finding = judge_following(
+        alloc, geometry, columns, key, &rows, shelf, stems, tableau, width,
+    )?;
     shelf.take_back(rows);
     Ok(finding)
 }

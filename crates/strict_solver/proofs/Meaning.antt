@@ -119,7 +119,7 @@ same_sum [] f = refl
 same_sum (e ∷ ms) f = ap (λ z. e.1 *ℤ f e.0 +ℤ z) (same_sum ms f)
 
 -- ---- what the answers mean
-above : (columns : ℕ) (fs : List Fold) (width : ℕ) (hs : List ℤ) → AreFoldsOver columns fs → IsFeasible columns (map (fold_row columns) fs) (Some width) hs → (length hs ≡ columns) × All (λ f. pos 1 ≤ℤ fold_value hs f) fs
+pub above : (columns : ℕ) (fs : List Fold) (width : Option ℕ) (hs : List ℤ) → AreFoldsOver columns fs → IsFeasible columns (map (fold_row columns) fs) width hs → (length hs ≡ columns) × All (λ f. pos 1 ≤ℤ fold_value hs f) fs
 above columns fs width hs w h =
     let c = h.scaling.counts.1 in (
       c,
@@ -127,7 +127,7 @@ above columns fs width hs w h =
           (let f = get_or fs j d in
           let over = w.each j f (at_place fs j d f l refl) in
           let n = length-map fs (fold_row columns) in
-          let r = feasible-rows columns (map (fold_row columns) fs) (Some width) hs (are_rows columns fs) h j (omega arith) in
+          let r = feasible-rows columns (map (fold_row columns) fs) width hs (are_rows columns fs) h j (omega arith) in
           let P : List ℤ → Type 0 = λ row. pos 1 ≤ℤ combination row hs in
           let Q : ℤ → Type 0 = λ z. pos 1 ≤ℤ z in
           subst Q (row_value columns f hs c over) (subst P (get_or-map (fold_row columns) fs j d [] l) r)),
@@ -145,7 +145,7 @@ cancelling columns fs width ms h =
     }
 
 pub meaning_of : (columns : ℕ) (fs : List Fold) (width : ℕ) (s : Solved) (a : Answer) → AreFoldsOver columns fs → HasSolved columns (map (fold_row columns) fs) width s a → HasMeaning columns fs s a
-meaning_of columns fs width Feasible (feasible hs) w h = above columns fs width hs w h
+meaning_of columns fs width Feasible (feasible hs) w h = above columns fs (Some width) hs w h
 meaning_of columns fs width Feasible unsolved w h = absurd h
 meaning_of columns fs width Feasible (infeasible ms) w h = absurd h
 meaning_of columns fs width Infeasible (infeasible ms) w h = cancelling columns fs (Some width) ms h
