@@ -16,9 +16,10 @@ pub record Probes : Type 0 where
   pub geometry : Shape
   pub width : ℕ
 
--- its folds are of this geometry, its solver has a column for each point, and its width is one that the solver takes
-pub record IsProber (g : Shape) (shelf : List Patch) (columns width : ℕ) : Type 0 where
+-- its folds are of this geometry, its stems and its solver have a column for each point, and its width is one that the solver takes
+pub record IsProber (g : Shape) (shelf : List Patch) (stems columns width : ℕ) : Type 0 where
   pub shelved : shelf ≡ patches g
+  pub stems_points : stems ≡ length g.points
   pub points : columns ≡ length g.points
   pub low : 1 ≤ width
   pub high : width ≤ 62

@@ -5,7 +5,7 @@ ghost use Rattle.ntfe_model.specs.Keys.{IsKey};
 ghost use Rattle.steal_workers.specs.Probing.{FindsWithin, IsVerdictOf, IsVerdictOn};
 
 use choice_board::Verdict;
-use node_probe::{Finding, Shelf, probe_shelved};
+use node_probe::{Finding, Shelf, Stems, probe_following};
 use nogood_set::NogoodSet;
 use ntfe_model::{Book, Geometry, Key};
 use std::alloc::{AllocError, Global};
@@ -21,6 +21,7 @@ pub struct Prober<'g> {
     alloc: Global,
     geometry: &'g Geometry,
     shelf: Shelf,
+    stems: Stems,
     tableau: Tableau,
     width: u8,
 }
@@ -32,7 +33,7 @@ impl<'g> Model for Prober<'g> {
 
     ghost view = { λ p. record { geometry = p.geometry.now; width = p.width } };
 
-    ghost invariant = { λ p. IsProber p.geometry.now p.shelf p.tableau.columns p.width };
+    ghost invariant = { λ p. IsProber p.geometry.now p.shelf p.stems.columns p.tableau.columns p.width };
 }
 
 /// The verdict of a finding. A key that a certificate of the set blocks is pruned by a copy of it.
@@ -63,11 +64,13 @@ impl<'g> Prober<'g> {
     {
         let columns = geometry.points().len() as u32;
         let shelf = Shelf::new(alloc, geometry)?;
+        let stems = Stems::new(alloc, columns, geometry.faces().len())?;
         let tableau = Tableau::reserve(alloc, FIRST_ROWS, columns)?;
         Ok(Prober {
             alloc,
             geometry,
             shelf,
+            stems,
             tableau,
             width,
         })
@@ -90,13 +93,14 @@ impl<'g> Prober<'g> {
         ensures book { B.shape book.new ≡ B.shape book.old }
         ensures verdict { IfOk result (IsVerdictOn self.old.geometry self.old.width key.now) }
     {
-        let finding = probe_shelved(
+        let finding = probe_following(
             self.alloc,
             self.geometry,
             key,
             book,
             &mut self.shelf,
             set,
+            &mut self.stems,
             &mut self.tableau,
             self.width,
         )?;
