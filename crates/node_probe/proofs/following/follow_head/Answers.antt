@@ -7,7 +7,7 @@ use Rattle.strict_solver.specs.Starts.{AreFoldsOver}
 use Rattle.strict_solver.proofs.Parts.{lent_back}
 use Rattle.node_probe.proofs.KeyLemmas.{left_over}
 use Rattle.node_probe.proofs.RowLemmas.{rows_within}
-use Rattle.node_probe.proofs.Counts.{faces_few}
+use Rattle.ntfe_model.proofs.Counts.{faces_few}
 use Rattle.node_probe.proofs.Refuting.{certificate_is}
 use Rattle.node_probe.proofs.Solutions.{folds_over, open_class, open_not_refuted}
 use Rattle.node_probe.proofs.StemLemmas.{gone_folds, gone_multipliers}
