@@ -1,6 +1,6 @@
 -- What is handed out, case by case.
 use Rattle.std.proofs.Common.{◌≡◌, ◌∙◌, refl, sym, ap, subst, inl, ℕ, ◌-◌, ◌≤◌, List, [], ◌∷◌, ◌++◌, length, Option, Some, None, Bool, true, false, ℤ, arith}
-use Rattle.std.specs.Prelude.{All, Contains}
+use Rattle.std.specs.Prelude.{All, Contains, MatchBool}
 use Rattle.std.specs.Option.{is_some}
 use Rattle.std.proofs.lemmas.List.Elements.{All-contains}
 use Rattle.ntfe_model.specs.Lists.{IsBelow}
@@ -8,7 +8,7 @@ use Rattle.ntfe_model.specs.Keys.{IsKey}
 use Rattle.choice_board.specs.States.{State, IsTrueRecord, place_of_record, IsSound}
 use Rattle.choice_board.specs.Views.{state_of}
 use Rattle.choice_board.specs.Order.{ComesFirst}
-use Rattle.choice_board.specs.Telling.{IsTaken, IsHandedOut, IsWaiting, outcome_told, totals_written}
+use Rattle.choice_board.specs.Telling.{HasNext, IsTaken, IsHandedOut, IsWaiting, outcome_told, totals_written}
 use Rattle.choice_board.specs.declared.outcome.Outcome.{Outcome}
 use Rattle.choice_board.specs.declared.outcome.Outcome.TheVariants.{Class, Wide, Far}
 use Rattle.choice_board.specs.declared.record.Record.{Record}
@@ -27,7 +27,7 @@ pub record HasEnd (s : State) (rest : List Record) (r : Record) : Type 0 where
   pub row : s.recorded ≡ rest ++ r ∷ []
   pub clear : All (IsBelow r.key) s.open_keys
 
-none_from_test : (o : Option Stop) (b : Bool) → b ≡ is_some o → b ≡ false → o ≡ None
+pub none_from_test : (o : Option Stop) (b : Bool) → b ≡ is_some o → b ≡ false → o ≡ None
 none_from_test None b e f = refl
 none_from_test (Some x) b e f = absurd (let g : false ≡ true = sym f ∙ e in cc)
 
@@ -122,6 +122,12 @@ none_first_waits s recorded keys sound e f none =
     let P : List Record → Type 0 = λ xs. ¬ (ComesFirst xs keys) in
     let Q : List (List ℕ) → Type 0 = λ xs. ¬ (ComesFirst s.recorded xs) in
     waits_otherwise s sound (subst Q f (subst P e none))
+
+-- whether something can be handed out
+pub tells_ready : (s : State) (recorded : List Record) (keys : List (List ℕ)) → IsSound s → recorded ≡ s.recorded → keys ≡ s.open_keys → s.stop ≡ None
+    → (b : Bool) → (b ≡ true → ComesFirst recorded keys) → (b ≡ false → ¬ (ComesFirst recorded keys)) → MatchBool b (HasNext s) (IsWaiting s)
+tells_ready s recorded keys sound e f running true first none = let h = first_through s recorded keys e f (first refl) in (running, (h.1, end_is_next s h.0 h.1 sound h.2 h.3))
+tells_ready s recorded keys sound e f running false first none = none_first_waits s recorded keys sound e f (none refl)
 
 -- ---- what was found, from what is told
 

@@ -65,6 +65,10 @@ IsHandedOut s t (Wide choice step number) =
 IsHandedOut s t (Far face) =
     (key : List ℕ) × (length key ≡ face + 1) × IsTaken s t key FoundFar × (t.last ≡ s.last) × (t.stop ≡ Some (StopFar key)) × (t.totals ≡ s.totals)
 
+-- the listing has not ended, and some recorded outcome comes before all open keys
+abbrev pub HasNext : State → Type 0
+HasNext s = (s.stop ≡ None) × ((r : Record) × IsNext s r)
+
 -- nothing can be handed out: the listing has ended, or no recorded outcome comes before all open keys
 abbrev pub IsWaiting : State → Type 0
 IsWaiting s = ¬ (s.stop ≡ None) ⊎ ((r : Record) → ¬ (IsNext s r))

@@ -42,12 +42,12 @@ impl Model for Board {
 }
 
 impl Board {
-    ghost use Rattle.std.specs.Prelude.{◌≡◌, ◌↔◌, ◌⊎◌, true, false, [], None, Some, IfOk, IsTrue, MatchOption, OnErr};
+    ghost use Rattle.std.specs.Prelude.{◌≡◌, ◌↔◌, ◌⊎◌, true, false, [], None, Some, IfOk, IsTrue, MatchBool, MatchOption, OnErr};
     ghost use Rattle.ntfe_model.specs.Keys.{IsStart};
     ghost use Rattle.choice_board.specs.Starts.{new_board};
     ghost use Rattle.choice_board.specs.States.{IsSound};
     ghost use Rattle.choice_board.specs.Settling.{IsSettledAs};
-    ghost use Rattle.choice_board.specs.Telling.{AreAllBlocked, IsHandedOut, IsLeastOpen, IsWaiting};
+    ghost use Rattle.choice_board.specs.Telling.{AreAllBlocked, HasNext, IsHandedOut, IsLeastOpen, IsWaiting};
     ghost use Rattle.choice_board.specs.Verdicts.{IsTrueOf};
 
     /// A board on which all choices above `after` are open, or all choices where it is `None`.
@@ -184,6 +184,17 @@ impl Board {
                 Some(outcome)
             }
         }
+    }
+
+    /// Whether [`ready`](Board::ready) would hand out an outcome.
+    pub fn is_ready(&self) -> bool
+        ensures answer { MatchBool result (HasNext self.now) (IsWaiting self.now) }
+        ensures sound { IsSound self.now }
+    {
+        if self.stop.is_some() {
+            return false;
+        }
+        comes_first(self.recorded.as_slice(), self.keys.as_slice())
     }
 
     /// The class last handed out; before the first, where the list begins. Takes no memory.

@@ -1,5 +1,11 @@
 //! What a key is settled with.
+ghost use Rattle.std.specs.Prelude.{◌≡◌, ◌<◌, ◌≤◌, ◌^◌, ◌-◌, length, IfOk};
+ghost use Rattle.ntfe_model.specs.Keys.{last_number};
+ghost use Rattle.choice_board.specs.Verdicts.{opened_by};
+
+use crate::opening::opened_keys;
 use ntfe_model::{Heights, Key, List, Nogood};
+use std::alloc::{AllocError, Global};
 
 /// What was found out about a key.
 #[derive(Drop)]
@@ -16,6 +22,20 @@ pub enum Verdict {
     Far,
     /// A two-face is left, so the key is gone into.
     Descend,
+}
+
+impl Verdict {
+    /// The keys that are opened where the key is closed with this verdict, from the least up.
+    ///
+    /// # Errors
+    /// `AllocError` where memory is short.
+    pub fn opened(&self, alloc: Global, key: &Key) -> Result<List<Key>, AllocError>
+        requires some { 1 ≤ length key.now }
+        requires small { last_number key.now < 2 ^ 32 - 1 }
+        ensures { IfOk result (λ keys. keys ≡ opened_by key.now self.now) }
+    {
+        Ok(List::from_vec(opened_keys(alloc, key, self)?))
+    }
 }
 
 /// What became of a verdict.

@@ -48,6 +48,13 @@ impl Model for Seat {
 }
 
 impl Seat {
+    /// The number of the seat in its ring, from 1.
+    pub fn number(&self) -> u16
+        ensures { result ≡ self.now.number }
+    {
+        self.number
+    }
+
     /// Puts a key behind the others of the own deque. Waits for no other thread.
     ///
     /// # Errors

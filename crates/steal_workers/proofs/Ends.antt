@@ -24,7 +24,7 @@ use Rattle.steal_workers.proofs.NextBlocks.{last_of_more, no_blocks, next_block,
 
 -- ---- counts and limits
 
-counted_more : (n k : ℕ) → n ≡ min (2 ^ 63) k → counted n ≡ min (2 ^ 63) (k + 1)
+pub counted_more : (n k : ℕ) → n ≡ min (2 ^ 63) k → counted n ≡ min (2 ^ 63) (k + 1)
 counted_more n k e = by (nat_lt n 9_223_372_036_854_775_808) refl
   where
     by : (b : Bool) → nat_lt n 9_223_372_036_854_775_808 ≡ b → cond b (n + 1) n ≡ min 9_223_372_036_854_775_808 (k + 1)

@@ -21,7 +21,7 @@ use Rattle.farkas_check.proofs.Refuting.{blocked_refuted}
 use Rattle.star_builder.proofs.SomeFaces.{has_face}
 use Rattle.steal_workers.specs.Listings.{Listed, Progress, at_start, ComesNext, IsNextOutcome, NoneIsLeft}
 use Rattle.steal_workers.specs.Blocks.{MovesTo}
-use Rattle.steal_workers.specs.Boards.{IsLiveRecord, IsUnderWay, IsRunning, IsFewer, IsOver, IsAbreast, IsOneOn}
+use Rattle.steal_workers.specs.Boards.{IsLiveRecord, IsUnderWay, IsRunning, IsFewer, IsOver, IsAbreast, IsLevel, IsOneOn}
 use Rattle.steal_workers.proofs.LiveKeys.{start_live}
 
 -- a choice that begins with the head of a pruned key is not extendable
@@ -32,69 +32,84 @@ blocked_not s sound choice (p, held, begins) e =
 
 -- ---- what is handed out comes next
 
-module _ (p : Progress) (s t : State) (a : IsAbreast p s) where
-  own : s.geometry ≡ p.listed.geometry
-  own = a.under_way.geometry
-
-  comes_next : (key : List ℕ) (found : Found) → IsTaken s t key found → ComesNext p.listed.geometry p.last key
+module _ (l : Listed) (last : Option (List ℕ)) (s t : State) (a : IsLevel l last s) where
+  comes_next : (key : List ℕ) (found : Found) → IsTaken s t key found → ComesNext l.geometry last key
   comes_next key found h = record {
-    above = subst (λ (l : Option (List ℕ)). IsAfter l key) a.last h.above;
+    above = subst (λ (x : Option (List ℕ)). IsAfter x key) a.last h.above;
     none_between = λ c e after below.
-        (let there : IsExtendable s.geometry c = subst (λ (g : Shape). IsExtendable g c) (sym own) e in
-        let above : IsAfter s.last c = subst (λ (l : Option (List ℕ)). IsAfter l c) (sym a.last) after in
+        (let there : IsExtendable s.geometry c = subst (λ (g : Shape). IsExtendable g c) (sym a.under_way.geometry) e in
+        let above : IsAfter s.last c = subst (λ (x : Option (List ℕ)). IsAfter x c) (sym a.last) after in
         blocked_not s a.sound c (h.between c there.items above below) there);
   }
 
-  live_record : (key : List ℕ) (found : Found) → IsTaken s t key found → IsLiveRecord p.listed key found
-  live_record key found h = All-contains (λ r. IsLiveRecord p.listed r.key r.found) s.recorded (record { key = key; found = found }) a.under_way.records h.next.recorded
+  live_record : (key : List ℕ) (found : Found) → IsTaken s t key found → IsLiveRecord l key found
+  live_record key found h = All-contains (λ r. IsLiveRecord l r.key r.found) s.recorded (record { key = key; found = found }) a.under_way.records h.next.recorded
 
-  pub next_outcome : (o : Outcome) → IsHandedOut s t o → IsNextOutcome p.listed p.last o
-  next_outcome (Class choice w) h = (subst (λ (g : Shape). Rattle.ntfe_model.specs.Keys.IsClass g choice w) own h.0.is_true.0, comes_next choice (FoundClass choice w) h.0)
+  pub next_outcome : (o : Outcome) → IsHandedOut s t o → IsNextOutcome l last o
+  next_outcome (Class choice w) h = (subst (λ (g : Shape). Rattle.ntfe_model.specs.Keys.IsClass g choice w) a.under_way.geometry h.0.is_true.0, comes_next choice (FoundClass choice w) h.0)
   next_outcome (Wide choice step number) h =
       let live = live_record choice (FoundWide choice step number) h.0 in
-      (record { items = subst (λ (g : Shape). Rattle.ntfe_model.specs.Choices.IsChoice g choice) own h.0.is_true.0.0; live = live.0; wide = live.1 }, comes_next choice (FoundWide choice step number) h.0)
+      (record { items = subst (λ (g : Shape). Rattle.ntfe_model.specs.Choices.IsChoice g choice) a.under_way.geometry h.0.is_true.0.0; live = live.0; wide = live.1 }, comes_next choice (FoundWide choice step number) h.0)
   next_outcome (Far face) (key, ends, taken, same, stops, totals) =
       let k : IsKey s.geometry key = All-contains (λ q. IsKey s.geometry q.key) s.recorded (record { key = key; found = FoundFar }) a.sound.record_keys taken.next.recorded in (
         key,
         record {
-          is_key = subst (λ (g : Shape). IsKey g key) own k;
+          is_key = subst (λ (g : Shape). IsKey g key) a.under_way.geometry k;
           live = live_record key FoundFar taken;
-          far = subst (λ (g : Shape). Rattle.ntfe_model.specs.Keys.IsFar g key) own taken.is_true;
+          far = subst (λ (g : Shape). Rattle.ntfe_model.specs.Keys.IsFar g key) a.under_way.geometry taken.is_true;
           ends_at = ends;
         },
         comes_next key FoundFar taken,
       )
 
-  -- ---- after a class
+pub level : (p : Progress) (s : State) → IsAbreast p s → IsLevel p.listed p.last s
+level p s a = record { last = a.last; under_way = a.under_way; sound = a.sound }
 
-  module _ (q : Progress) (later : IsSound t) where
-    pub class_abreast : (o : Outcome) → IsHandedOut s t o → MovesTo p q o → IsAbreast q t × (length t.recorded < length s.recorded) × IsFewer s t
-    class_abreast (Class choice w) h e = (
-      record {
-        last = h.1 ∙ sym (ap (λ x. x.last) e);
-        under_way = subst (λ (l : Listed). IsUnderWay l t) (sym (ap (λ x. x.listed) e)) record {
-          geometry = h.0.geometry ∙ own;
-          keys = subst (λ (ks : List (List ℕ)). All (IsLive p.listed.geometry p.listed.start p.listed.width) ks) (sym h.0.open_keys) a.under_way.keys;
-          records = All-from_contains (λ r. IsLiveRecord p.listed r.key r.found) t.recorded (λ r c. All-contains (λ x. IsLiveRecord p.listed x.key x.found) s.recorded r a.under_way.records (fewer r c));
-        };
-        running = record { not_stopped = h.2; given_out = h.0.closed ∙ a.running.given_out };
-        sound = later;
-      },
-      shorter s.recorded t.recorded (record { key = choice; found = FoundClass choice w }) h.0.recorded,
-      record { open_keys = h.0.open_keys; given_out = h.0.closed; geometry = h.0.geometry; recorded = fewer },
-    )
-      where
-        fewer : (r : Record) → Contains t.recorded r → Contains s.recorded r
-        fewer r c = subst (λ (rs : List Record). Contains rs r) (sym h.0.recorded) (Contains-append_left t.recorded (record { key = choice; found = FoundClass choice w } ∷ []) r c)
+-- ---- what is handed out leaves all else under way
 
-        shorter : (rs us : List Record) (r : Record) → rs ≡ us ++ r ∷ [] → length us < length rs
-        shorter rs us r x = let z = ap length x ∙ length_more us r in omega (arith, z)
-          where
-            length_more : (vs : List Record) (v : Record) → length (vs ++ v ∷ []) ≡ length vs + 1
-            length_more [] v = refl
-            length_more (u ∷ vs) v = let r2 = length_more vs v in omega (arith, r2)
-    class_abreast (Wide choice step number) h e = absurd e
-    class_abreast (Far face) h e = absurd e
+pub fewer_taken : (s t : State) (key : List ℕ) (found : Found) → IsTaken s t key found → IsFewer s t
+fewer_taken s t key found h = record {
+  open_keys = h.open_keys;
+  given_out = h.closed;
+  geometry = h.geometry;
+  recorded = λ r c. subst (λ (rs : List Record). Contains rs r) (sym h.recorded) (Contains-append_left t.recorded (record { key = key; found = found } ∷ []) r c);
+}
+
+pub fewer_handed : (s t : State) (o : Outcome) → IsHandedOut s t o → IsFewer s t
+fewer_handed s t (Class choice w) h = fewer_taken s t choice (FoundClass choice w) h.0
+fewer_handed s t (Wide choice step number) h = fewer_taken s t choice (FoundWide choice step number) h.0
+fewer_handed s t (Far face) (key, ends, h, last, stop, totals) = fewer_taken s t key FoundFar h
+
+pub fewer_under_way : (l : Listed) (s t : State) → IsFewer s t → IsUnderWay l s → IsUnderWay l t
+fewer_under_way l s t h u = record {
+  geometry = h.geometry ∙ u.geometry;
+  keys = subst (λ (ks : List (List ℕ)). All (IsLive l.geometry l.start l.width) ks) (sym h.open_keys) u.keys;
+  records = All-from_contains (λ r. IsLiveRecord l r.key r.found) t.recorded (λ r c. All-contains (λ x. IsLiveRecord l x.key x.found) s.recorded r u.records (h.recorded r c));
+}
+
+-- ---- after a class
+
+module _ (p : Progress) (s t : State) (a : IsAbreast p s) (q : Progress) (later : IsSound t) where
+  pub class_abreast : (o : Outcome) → IsHandedOut s t o → MovesTo p q o → IsAbreast q t × (length t.recorded < length s.recorded) × IsFewer s t
+  class_abreast (Class choice w) h e = (
+    record {
+      last = h.1 ∙ sym (ap (λ x. x.last) e);
+      under_way = subst (λ (l : Listed). IsUnderWay l t) (sym (ap (λ x. x.listed) e)) (fewer_under_way p.listed s t (fewer_taken s t choice (FoundClass choice w) h.0) a.under_way);
+      running = record { not_stopped = h.2; given_out = h.0.closed ∙ a.running.given_out };
+      sound = later;
+    },
+    shorter s.recorded t.recorded (record { key = choice; found = FoundClass choice w }) h.0.recorded,
+    fewer_taken s t choice (FoundClass choice w) h.0,
+  )
+    where
+      shorter : (rs us : List Record) (r : Record) → rs ≡ us ++ r ∷ [] → length us < length rs
+      shorter rs us r x = let z = ap length x ∙ length_more us r in omega (arith, z)
+        where
+          length_more : (vs : List Record) (v : Record) → length (vs ++ v ∷ []) ≡ length vs + 1
+          length_more [] v = refl
+          length_more (u ∷ vs) v = let r2 = length_more vs v in omega (arith, r2)
+  class_abreast (Wide choice step number) h e = absurd e
+  class_abreast (Far face) h e = absurd e
 
 pub moved_listed : (p q : Progress) (o : Outcome) → MovesTo p q o → q.listed ≡ p.listed
 moved_listed p q (Class choice w) e = ap (λ x. x.listed) e
@@ -126,14 +141,17 @@ settled_abreast p s t a sound o stays = record {
 
 -- ---- a new board
 
+pub new_under_way : (l : Listed) → IsSound (new_board l.geometry l.start) → IsUnderWay l (new_board l.geometry l.start)
+new_under_way l fresh = record {
+  geometry = refl;
+  keys = start_live l.geometry l.start l.width fresh.above;
+  records = All-nil (λ r. IsLiveRecord l r.key r.found);
+}
+
 pub new_abreast : (l : Listed) (s : State) → IsSound s → s ≡ new_board l.geometry l.start → IsAbreast (at_start l) s
 new_abreast l s sound e = subst (IsAbreast (at_start l)) (sym e) record {
   last = refl;
-  under_way = record {
-    geometry = refl;
-    keys = start_live l.geometry l.start l.width fresh.above;
-    records = All-nil (λ r. IsLiveRecord l r.key r.found);
-  };
+  under_way = new_under_way l fresh;
   running = record { not_stopped = refl; given_out = refl };
   sound = fresh;
 }

@@ -1,5 +1,5 @@
 -- The board while its keys are settled and its outcomes are written.
-use Rattle.std.specs.Prelude.{◌≡◌, ◌<◌, Bool, ℕ, zero, suc, ◌+◌, ◌*◌, min, true, false, List, [], ◌∷◌, length, None, ⊤, All, Contains}
+use Rattle.std.specs.Prelude.{◌≡◌, ◌<◌, Bool, ℕ, zero, suc, ◌+◌, ◌*◌, min, true, false, List, [], ◌∷◌, length, Option, None, ⊤, All, Contains}
 use Rattle.ntfe_model.specs.Shapes.{Shape}
 use Rattle.ntfe_model.specs.Keys.{IsLive, IsWideAt}
 use Rattle.choice_board.specs.States.{State, IsSound}
@@ -80,6 +80,12 @@ abbrev pub StaysUnderWay : Shape → ℕ → State → State → Type 0
 StaysUnderWay g width s t = (l : Listed) → l.geometry ≡ g → l.width ≡ width → IsUnderWay l s → IsUnderWay l t
 
 -- ---- a board and what writes its outcomes
+
+-- the board's last class is the one last written, and all that waits on the board may be come to
+pub record IsLevel (l : Listed) (written : Option (List ℕ)) (s : State) : Type 0 where
+  pub last : s.last ≡ written
+  pub under_way : IsUnderWay l s
+  pub sound : IsSound s
 
 -- the board's last class is the one last written, and the listing goes on
 pub record IsAbreast (p : Progress) (s : State) : Type 0 where

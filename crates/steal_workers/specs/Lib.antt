@@ -4,3 +4,7 @@ pub mod Blocks
 pub mod Ends
 pub mod Probing
 pub mod Boards
+pub mod Shared
+pub mod Tallies
+pub mod Pools
+pub mod Workers

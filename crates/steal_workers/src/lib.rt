@@ -3,14 +3,28 @@
 
 mod alone;
 mod blocks;
+mod crew;
+mod found_keys;
 mod listing;
+mod look;
+mod pool;
 mod probing;
 mod served;
+mod serving;
+mod shared_board;
+mod sizes;
 mod stars;
+mod tally;
+mod together;
+mod worker;
+mod working;
 mod writer;
 
 pub use alone::list_alone;
 pub use listing::Listing;
+pub use pool::Pool;
 pub use probing::Prober;
 pub use served::Served;
+pub use tally::{Stake, Tally};
+pub use together::list_together;
 pub use writer::Writer;

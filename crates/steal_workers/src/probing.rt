@@ -24,6 +24,7 @@ pub struct Prober<'g> {
     stems: Stems,
     tableau: Tableau,
     width: u8,
+    blocked: u64,
 }
 
 impl<'g> Model for Prober<'g> {
@@ -73,6 +74,7 @@ impl<'g> Prober<'g> {
             stems,
             tableau,
             width,
+            blocked: 0,
         })
     }
 
@@ -104,6 +106,14 @@ impl<'g> Prober<'g> {
             &mut self.tableau,
             self.width,
         )?;
+        if let Finding::Blocked(_) = finding {
+            self.blocked = self.blocked.saturating_add(1);
+        }
         verdict_of(self.alloc, finding, set)
+    }
+
+    /// How many probes were ended by a certificate of the set, up to 2^64 - 1.
+    pub fn blocked(&self) -> u64 {
+        self.blocked
     }
 }

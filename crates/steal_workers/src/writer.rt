@@ -80,6 +80,20 @@ impl<'l, 'g> Writer<'l, 'g> {
         })
     }
 
+    /// What is listed.
+    pub fn listing(&self) -> &'l Listing<'g>
+        ensures { result.now ≡ self.now.listed }
+    {
+        self.listing
+    }
+
+    /// The class last written, or the start where there is none yet.
+    pub fn last(&self) -> &Option<Choice>
+        ensures { result.now ≡ self.now.last }
+    {
+        &self.last
+    }
+
     /// The limit, where it is reached.
     fn reached(&self) -> Option<u32>
         ensures { MatchOption result (IsUnderLimit self.now.listed.limit self.now.count) (λ n. (self.now.listed.limit ≡ Some n) × (n ≤ self.now.count)) }

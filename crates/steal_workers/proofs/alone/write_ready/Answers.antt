@@ -2,14 +2,14 @@ use Rattle.std.proofs.Common.{refl, sym, ◌∙◌, subst, arith, inr}
 use Rattle.std.proofs.lemmas.Result.{err_from_is_err_and}
 use Rattle.choice_board.specs.Telling.{IsWaiting}
 use Rattle.steal_workers.specs.Listings.{Listed, HasServed}
-use Rattle.steal_workers.proofs.HandedOut.{next_outcome, class_abreast, moved_listed, fewer_self, fewer_then}
+use Rattle.steal_workers.proofs.HandedOut.{level, next_outcome, class_abreast, moved_listed, fewer_self, fewer_then}
 use Rattle.steal_workers.proofs.alone.write_ready.Goals as goal
 
 pub loop-board-init : goal.loop-board-init
 loop-board-init g c = (λ earlier h. h, c.requires.abreast, fewer_self _, refl, (let n = g.K.Sink.faults c.args.out.now in omega arith))
 
 pub write-requires-clause-next : goal.write-requires-clause-next
-write-requires-clause-next g c = next_outcome c.loop-board.writer c.loop-board.board c.ready.new.self c.loop-board.invariant.1 c.in-Some.outcome c.in-Some.ensures.answer
+write-requires-clause-next g c = next_outcome c.loop-board.writer.listed c.loop-board.writer.last c.loop-board.board c.ready.new.self (level c.loop-board.writer c.loop-board.board c.loop-board.invariant.1) c.in-Some.outcome c.in-Some.ensures.answer
 
 pub loop-board-smaller : goal.loop-board-smaller
 loop-board-smaller g c =

@@ -1,0 +1,117 @@
+-- The board that workers share stays one, whatever is settled on it or handed out.
+use Rattle.std.proofs.Common.{◌≡◌, ◌≢◌, refl, sym, ap, ◌∙◌, subst, ℕ, ◌+◌, ◌-◌, ◌^◌, min, List, true, nat_eq, arith}
+use Rattle.std.specs.Prelude.{Option}
+use Rattle.std.proofs.lemmas.Bool.Decides.{nat_tests}
+use Rattle.ntfe_model.specs.Shapes.{Shape}
+use Rattle.choice_board.specs.States.{State, IsSound}
+use Rattle.choice_board.specs.Starts.{new_board}
+use Rattle.choice_board.specs.Settling.{IsSettledAs, totals_taken, counted}
+use Rattle.choice_board.specs.Telling.{IsHandedOut}
+use Rattle.choice_board.specs.declared.totals.Totals.{Totals}
+use Rattle.choice_board.specs.declared.outcome.Outcome.{Outcome}
+use Rattle.choice_board.specs.declared.outcome.Outcome.TheVariants.{Class, Wide, Far}
+use Rattle.choice_board.specs.declared.verdict.Settled.{Settled}
+use Rattle.choice_board.specs.declared.verdict.Settled.TheVariants.{Stale, Taken}
+use Rattle.choice_board.specs.declared.verdict.Verdict.{Verdict}
+use Rattle.choice_board.specs.declared.verdict.Verdict.TheVariants as verdict
+use Rattle.steal_workers.specs.Listings.{Listed, IsNextOutcome, NoneIsLeft}
+use Rattle.steal_workers.specs.Boards.{IsUnderWay, IsFewer, IsOver, IsLevel}
+use Rattle.steal_workers.specs.Probing.{IsVerdictOn}
+use Rattle.steal_workers.specs.Shared.{Shared, IsListedOn, IsShared}
+use Rattle.steal_workers.proofs.HandedOut.{next_outcome, none_left, new_under_way, fewer_handed, fewer_under_way}
+use Rattle.steal_workers.proofs.Ends.{counted_more}
+use Rattle.steal_workers.proofs.Settled.{stays_under_way}
+
+-- the board of a listing at its last class is level with it
+pub is_level : (s : Shared) (l : Listed) (last : Option (List ℕ)) → IsShared s → IsListedOn s l → s.board.last ≡ last → IsLevel l last s.board
+is_level s l last h on e = record { last = e; under_way = h.under_way l on; sound = h.sound }
+
+-- ---- what one moment under the lock tells
+
+-- what is handed out comes next
+pub next_look : (s : Shared) (l : Listed) (last : Option (List ℕ)) → IsShared s → IsListedOn s l × (s.board.last ≡ last) → (t : State) (o : Outcome) → IsHandedOut s.board t o → IsNextOutcome l last o
+next_look s l last h (on, e) t o told = next_outcome l last s.board t (is_level s l last h on e) o told
+
+-- where the board is over nothing is left
+pub over_look : (s : Shared) (l : Listed) (last : Option (List ℕ)) → IsShared s → IsListedOn s l × (s.board.last ≡ last) → IsOver s.board → NoneIsLeft l.geometry last
+over_look s l last h (on, e) over = subst (λ (x : Shape × Option (List ℕ)). NoneIsLeft x.0 x.1) (λ i. (sym on.geometry i, e i)) (none_left s.board h.sound over)
+
+-- ---- what is handed out
+
+handed_settled : (s t : State) (o : Outcome) → IsHandedOut s t o → t.totals.settled ≡ s.totals.settled
+handed_settled s t (Class choice w) h = ap (λ x. x.settled) h.3
+handed_settled s t (Wide choice step number) h = ap (λ x. x.settled) h.3
+handed_settled s t (Far face) (key, ends, h, last, stop, totals) = ap (λ x. x.settled) totals
+
+pub handed_shared : (s : Shared) (t : State) (o : Outcome) → IsHandedOut s.board t o → IsSound t → IsShared s → IsShared (record s { board = t })
+handed_shared s t o h sound shared = record {
+  sound = sound;
+  under_way = λ l on. fewer_under_way l s.board t fewer (shared.under_way l record { geometry = on.geometry ∙ fewer.geometry; start = on.start; width = on.width });
+  tied = handed_settled s.board t o h ∙ shared.tied;
+}
+  where
+    fewer : IsFewer s.board t
+    fewer = fewer_handed s.board t o h
+
+-- ---- a new board
+
+pub new_shared : (s : Shared) → IsSound s.board → s.board ≡ new_board s.board.geometry s.start → s.booked ≡ 0 → IsShared s
+new_shared s sound e none = record {
+  sound = sound;
+  under_way = λ l on. subst (IsUnderWay l) (board l on) (new_under_way l (subst IsSound (sym (board l on)) sound));
+  tied = ap (λ (b : State). b.totals.settled) e ∙ sym (ap (λ n. min (2 ^ 63) n) none);
+}
+  where
+    board : (l : Listed) → IsListedOn s l → new_board l.geometry l.start ≡ s.board
+    board l on = (λ i. new_board (on.geometry i) (on.start i)) ∙ sym e
+
+-- ---- the totals
+
+-- whoever holds the whole ledger counts as many settled keys as the board
+pub totals_agree : (least settled own booked : ℕ) → least ≡ min own (2 ^ 63) → own ≡ min (2 ^ 64 - 1) booked → settled ≡ min (2 ^ 63) booked → nat_eq least settled ≡ true
+totals_agree least settled own booked e f h = grind (arith, nat_tests, e, f, h)
+
+-- ---- a closed board
+
+pub closed_shared : (s : Shared) (t : State) → IsShared s → IsSound t → t ≡ record s.board { closed = true } → IsShared (record s { board = t })
+closed_shared s t shared sound e = record {
+  sound = sound;
+  under_way = λ l on. subst (IsUnderWay l) (sym e)
+      (let u = shared.under_way l record { geometry = on.geometry ∙ ap (λ (b : State). b.geometry) e; start = on.start; width = on.width } in
+      record { geometry = u.geometry; keys = u.keys; records = u.records });
+  tied = ap (λ (b : State). b.totals.settled) e ∙ shared.tied;
+}
+
+-- ---- a settled key
+
+taken_settled : (c : Totals) (v : Verdict) → (totals_taken c v).settled ≡ counted c.settled
+taken_settled c verdict.End = refl
+taken_settled c (verdict.Pruned n) = refl
+taken_settled c (verdict.Class w) = refl
+taken_settled c (verdict.Wide step number) = refl
+taken_settled c verdict.Far = refl
+taken_settled c verdict.Descend = refl
+
+module _ (s : Shared) (t : State) (key : List ℕ) (v : Verdict) (shared : IsShared s) (sound : IsSound t) (is : IsVerdictOn s.board.geometry s.width key v) where
+  settled_geometry : (a : Settled) → IsSettledAs s.board t key v a → t.geometry ≡ s.board.geometry
+  settled_geometry Stale h = ap (λ (b : State). b.geometry) h.1
+  settled_geometry (Taken opened) h = h.1.geometry
+
+  still_under_way : (a : Settled) → IsSettledAs s.board t key v a → (l : Listed) → IsListedOn (record s { board = t }) l → IsUnderWay l t
+  still_under_way a h l on =
+      let own : l.geometry ≡ s.board.geometry = on.geometry ∙ settled_geometry a h in
+      stays_under_way s.board.geometry s.width s.board t key v a shared.sound is.1 h l own on.width (shared.under_way l record { geometry = own; start = on.start; width = on.width })
+
+  -- a verdict that came too late changes nothing of it
+  pub stale_shared : (a : Settled) → a ≡ Stale → IsSettledAs s.board t key v a → IsShared (record s { board = t })
+  stale_shared Stale e h = record { sound = sound; under_way = still_under_way Stale h; tied = ap (λ (b : State). b.totals.settled) h.1 ∙ shared.tied }
+  stale_shared (Taken opened) e h = absurd (let x : Taken opened ≡ Stale = e in cc)
+
+  -- a key that was closed is booked
+  pub taken_shared : (a : Settled) → a ≢ Stale → IsSettledAs s.board t key v a → (total : ℕ) → total ≡ s.booked + 1 → IsShared (record s { board = t; booked = total })
+  taken_shared Stale e h total one = absurd (e refl)
+  taken_shared (Taken opened) e h total one = record {
+    sound = sound;
+    under_way = λ l on. still_under_way (Taken opened) h l record { geometry = on.geometry; start = on.start; width = on.width };
+    tied = ap (λ (c : Totals). c.settled) h.1.totals ∙ taken_settled s.board.totals v ∙ counted_more s.board.totals.settled s.booked shared.tied ∙ ap (λ n. min (2 ^ 63) n) (sym one);
+  }

@@ -1,0 +1,39 @@
+-- The board that workers share, and what is seen of it in one moment under its lock.
+use Rattle.std.specs.Prelude.{◌≡◌, ℕ, ◌^◌, min, List, Option, ⊤}
+use Rattle.choice_board.specs.States.{State, IsSound}
+use Rattle.steal_workers.specs.Listings.{Listed, IsNextOutcome, NoneIsLeft}
+use Rattle.steal_workers.specs.Boards.{IsUnderWay}
+use Rattle.steal_workers.specs.declared.look.Look.{Look}
+use Rattle.steal_workers.specs.declared.look.Look.TheVariants.{Next, Done, Waiting, Foreign}
+
+-- what lies under the lock: the board, the width and the start of its pool, and the number of keys that the workers booked as settled
+pub record Shared : Type 0 where
+  pub board : State
+  pub width : ℕ
+  pub start : Option (List ℕ)
+  pub booked : ℕ
+
+-- the listing is of this geometry, start and width
+pub record IsListedOn (s : Shared) (l : Listed) : Type 0 where
+  pub geometry : l.geometry ≡ s.board.geometry
+  pub start : l.start ≡ s.start
+  pub width : l.width ≡ s.width
+
+-- the board is sound, all that waits on it may be come to from its start, and its total of settled keys is what was booked, up to 2^63
+pub record IsShared (s : Shared) : Type 0 where
+  pub sound : IsSound s.board
+  pub under_way : (l : Listed) → IsListedOn s l → IsUnderWay l s.board
+  pub tied : s.board.totals.settled ≡ min (2 ^ 63) s.booked
+
+-- the same geometry, width and start
+pub record IsSameListing (s t : Shared) : Type 0 where
+  pub geometry : t.board.geometry ≡ s.board.geometry
+  pub width : t.width ≡ s.width
+  pub start : t.start ≡ s.start
+
+-- What one moment under the lock tells whoever wrote the classes of a listing up to the last one: the next outcome, or that none is left
+abbrev pub IsLook : Listed → Option (List ℕ) → Look → Type 0
+IsLook l last (Next outcome) = IsNextOutcome l last outcome
+IsLook l last Done = NoneIsLeft l.geometry last
+IsLook l last Waiting = ⊤
+IsLook l last Foreign = ⊤

@@ -1,0 +1,236 @@
+//! The server of a pool, which writes what the workers find.
+ghost use Rattle.std.specs.Prelude.{◌≡◌, ◌<◌, ◌≤◌, ◌⊎◌, IfOk, IfErr, IfSome, OnOk, OnErr, Ok, Err, false};
+ghost use Rattle.io_edge.specs.Causes.{Rose};
+ghost use Rattle.steal_workers.specs.Forms.{IsFormOf};
+ghost use Rattle.steal_workers.specs.Listings.{HasServed, IsAtLimit, NoneIsLeft, GoesOn, EndsAs};
+ghost use Rattle.steal_workers.specs.Pools.{listed_by, probes_of, IsListedBy};
+ghost use Rattle.steal_workers.specs.Tallies.{IsSameTally};
+
+use crate::listing::Listing;
+use crate::look::Look;
+use crate::pool::{Found, Pool};
+use crate::served::Served;
+use crate::tally::{Stake, Tally};
+use crate::worker::Worker;
+use crate::writer::Writer;
+use class_text::TextForm;
+use io_edge::{Gate, Sink};
+use std::alloc::AllocError;
+use std::sync::Wait;
+use std::sync::ledger::Ledger;
+use std::time::Duration;
+
+/// How many microseconds the server waits for an outcome, unless it is told of one.
+const QUIET_MICROS: u64 = 1000;
+
+impl<'g, L: Ledger> Pool<'g, L> {
+    /// Writes the blocks of the pool's classes, as worker 0, in order, and answers how that ends, with what it counted.
+    /// It writes what the board hands out, and waits for the workers where nothing can be handed out yet; where none
+    /// is alive it probes the least open key itself. At its end no key is given out any more, so the workers end.
+    pub fn serve<R: Wait, K: Sink, G: Gate>(
+        &self,
+        rt: &R,
+        stake: Stake<L>,
+        form: &TextForm,
+        limit: Option<u32>,
+        out: &mut K,
+        gate: &G,
+    ) -> (Served, Tally<L>)
+        requires form { IsFormOf self.now.geometry form.now }
+        ensures served { HasServed (listed_by self.now form.now limit) (record { before = K.taken out.old; after = K.taken out.new }) result.0 }
+        ensures cause { result.0 ≡ Served.WriteFault → Rose (K.faults out.old) (K.faults out.new) }
+        ensures later { K.faults out.old ≤ K.faults out.new }
+        ensures worker { result.1.worker ≡ 0 }
+        ensures parts { result.1.parts ≡ 1 }
+    {
+        let listing = Listing::new(self.geometry, form, &self.start, limit, self.width);
+        let mut mine = Tally::new(0, stake);
+        let served = self.write_or_end(rt, &listing, &mut mine, out, gate);
+        self.close(rt);
+        (served, mine)
+    }
+
+    /// Writes the listing, and answers how that ends.
+    fn write_or_end<R: Wait, K: Sink, G: Gate>(
+        &self,
+        rt: &R,
+        listing: &Listing<'g>,
+        mine: &mut Tally<L>,
+        out: &mut K,
+        gate: &G,
+    ) -> Served
+        requires own { IsListedBy self.now listing.now }
+        requires part { 0 < mine.old.parts }
+        ensures served { HasServed listing.now (record { before = K.taken out.old; after = K.taken out.new }) result }
+        ensures cause { result ≡ Served.WriteFault → Rose (K.faults out.old) (K.faults out.new) }
+        ensures later { K.faults out.old ≤ K.faults out.new }
+        ensures tally { IsSameTally mine.old mine.new }
+    {
+        match self.write_listing(rt, listing, mine, out, gate) {
+            Ok(served) => served,
+            Err(_) => {
+                mine.end_for_memory();
+                Served::Memory
+            }
+        }
+    }
+
+    /// Makes what writes the listing, and writes it. Where memory is short for that, nothing is written.
+    fn write_listing<R: Wait, K: Sink, G: Gate>(
+        &self,
+        rt: &R,
+        listing: &Listing<'g>,
+        mine: &mut Tally<L>,
+        out: &mut K,
+        gate: &G,
+    ) -> Result<Served, AllocError>
+        requires own { IsListedBy self.now listing.now }
+        requires part { 0 < mine.old.parts }
+        ensures served { IfOk result (HasServed listing.now (record { before = K.taken out.old; after = K.taken out.new })) }
+        ensures none { OnErr result (K.taken out.new ≡ K.taken out.old) }
+        ensures cause { result ≡ Ok Served.WriteFault → Rose (K.faults out.old) (K.faults out.new) }
+        ensures later { K.faults out.old ≤ K.faults out.new }
+        ensures tally { IsSameTally mine.old mine.new }
+    {
+        let mut writer = Writer::new(self.alloc, listing)?;
+        match self.write_outcomes(rt, &mut writer, mine, out, gate) {
+            Ok(()) => Ok(writer.finish()),
+            Err(served) => Ok(served),
+        }
+    }
+
+    /// Writes what the board hands out, until nothing is left or the limit is reached.
+    fn write_outcomes<R: Wait, K: Sink, G: Gate>(
+        &self,
+        rt: &R,
+        writer: &mut Writer<'_, 'g>,
+        mine: &mut Tally<L>,
+        out: &mut K,
+        gate: &G,
+    ) -> Result<(), Served>
+        requires own { IsListedBy self.now writer.old.listed }
+        requires part { 0 < mine.old.parts }
+        ensures listed { writer.new.listed ≡ writer.old.listed }
+        ensures on { OnOk result (GoesOn writer.old writer.new (record { before = K.taken out.old; after = K.taken out.new })) }
+        ensures done { OnOk result (IsAtLimit writer.new.listed.limit writer.new.count ⊎ NoneIsLeft writer.new.listed.geometry writer.new.last) }
+        ensures ends { IfErr result (EndsAs writer.old (record { before = K.taken out.old; after = K.taken out.new })) }
+        ensures cause { result ≡ Err Served.WriteFault → Rose (K.faults out.old) (K.faults out.new) }
+        ensures later { K.faults out.old ≤ K.faults out.new }
+        ensures tally { IsSameTally mine.old mine.new }
+    {
+        let mut helper = None;
+        let mut turn = 0_u64;
+        for _ in rt.forever() {
+            gate.at(0, turn);
+            turn = turn.saturating_add(1);
+            if !self.serve_turn(rt, writer, &mut helper, mine, out)? {
+                return Ok(());
+            }
+        }
+        unreachable!()
+    }
+
+    /// One turn of the server. False where nothing is left or the limit is reached.
+    fn serve_turn<'s, R: Wait, K: Sink>(
+        &'s self,
+        rt: &R,
+        writer: &mut Writer<'_, 'g>,
+        helper: &mut Option<Worker<'s, 'g>>,
+        mine: &mut Tally<L>,
+        out: &mut K,
+    ) -> Result<bool, Served>
+        requires own { IsListedBy self.now writer.old.listed }
+        requires helper { IfSome helper.old (λ w. w ≡ probes_of self.now) }
+        requires part { 0 < mine.old.parts }
+        ensures listed { writer.new.listed ≡ writer.old.listed }
+        ensures on { OnOk result (GoesOn writer.old writer.new (record { before = K.taken out.old; after = K.taken out.new })) }
+        ensures done { IfOk result (λ more. (more ≡ false) → IsAtLimit writer.new.listed.limit writer.new.count ⊎ NoneIsLeft writer.new.listed.geometry writer.new.last) }
+        ensures ends { IfErr result (EndsAs writer.old (record { before = K.taken out.old; after = K.taken out.new })) }
+        ensures cause { result ≡ Err Served.WriteFault → Rose (K.faults out.old) (K.faults out.new) }
+        ensures later { K.faults out.old ≤ K.faults out.new }
+        ensures tally { IsSameTally mine.old mine.new }
+        ensures helper { IfSome helper.new (λ w. w ≡ probes_of self.now) }
+    {
+        if writer.is_full() {
+            return Ok(false);
+        }
+        let seen = self.outcomes.notifications();
+        match self.look(rt, writer.listing(), writer.last()) {
+            Look::Next(outcome) => {
+                writer.write(outcome, out)?;
+                return Ok(true);
+            }
+            Look::Done => return Ok(false),
+            Look::Foreign => return Err(Served::Memory),
+            Look::Waiting => {}
+        }
+        self.wait_or_help(rt, seen, helper, mine)?;
+        Ok(true)
+    }
+
+    /// Waits for an outcome; where no worker is alive, probes the least open key.
+    fn wait_or_help<'s, R: Wait>(
+        &'s self,
+        rt: &R,
+        seen: u64,
+        helper: &mut Option<Worker<'s, 'g>>,
+        mine: &mut Tally<L>,
+    ) -> Result<(), Served>
+        requires helper { IfSome helper.old (λ w. w ≡ probes_of self.now) }
+        requires part { 0 < mine.old.parts }
+        ensures helper { IfSome helper.new (λ w. w ≡ probes_of self.now) }
+        ensures tally { IsSameTally mine.old mine.new }
+        ensures cause { IfErr result (λ s. s ≡ Served.Memory) }
+    {
+        if self.has_workers(rt) {
+            self.outcomes
+                .sleep(rt, seen, Duration::from_micros(QUIET_MICROS));
+            return Ok(());
+        }
+        match self.help(rt, helper, mine) {
+            Ok(()) => Ok(()),
+            Err(_) => Err(Served::Memory),
+        }
+    }
+
+    /// Probes and settles the least open key, and some of those that it opens.
+    fn help<'s, R: Wait>(
+        &'s self,
+        rt: &R,
+        helper: &mut Option<Worker<'s, 'g>>,
+        mine: &mut Tally<L>,
+    ) -> Result<(), AllocError>
+        requires helper { IfSome helper.old (λ w. w ≡ probes_of self.now) }
+        requires part { 0 < mine.old.parts }
+        ensures helper { IfSome helper.new (λ w. w ≡ probes_of self.now) }
+        ensures tally { IsSameTally mine.old mine.new }
+    {
+        if helper.is_none() {
+            *helper = Some(Worker::new(self.alloc, self.geometry, self.width)?);
+        }
+        let Some(worker) = helper else {
+            return Ok(());
+        };
+        self.help_as(rt, worker, mine)
+    }
+
+    /// Probes and settles the least open key, and some of those that it opens; the worker holds none of them.
+    fn help_as<'s, R: Wait>(
+        &'s self,
+        rt: &R,
+        worker: &mut Worker<'s, 'g>,
+        mine: &mut Tally<L>,
+    ) -> Result<(), AllocError>
+        requires worker { worker.old ≡ probes_of self.now }
+        requires part { 0 < mine.old.parts }
+        ensures worker { worker.new ≡ worker.old }
+        ensures tally { IsSameTally mine.old mine.new }
+    {
+        if let Found::Key = self.least_key(rt, worker)? {
+            worker.work(rt, &self.store)?;
+            worker.forget();
+            self.settle_found(rt, worker, mine)?;
+        }
+        Ok(())
+    }
+}
