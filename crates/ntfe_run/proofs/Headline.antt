@@ -1,16 +1,15 @@
 -- From the text of a run to the headline: extendable choices are those that fine regular star triangulations induce.
-use Rattle.std.proofs.Common.{◌≡◌, ◌∙◌, refl, sym, ap, subst, inl, inr, Bool, true, false, cond, ℕ, ℤ, List, [], length, Some, None}
+use Rattle.std.proofs.Common.{◌≡◌, ◌∙◌, refl, sym, ap, subst, inl, inr, Bool, true, false, cond, ℕ, List, [], length, Some, None}
 use Rattle.std.specs.Prelude.{Option}
 use Rattle.ntfe_model.specs.Lists.{IsBelow}
 use Rattle.ntfe_model.specs.Shapes.{Shape, IsShape}
 use Rattle.ntfe_model.specs.Choices.{IsChoice, Extends}
 use Rattle.ntfe_model.specs.Keys.{IsAfter}
 use Rattle.ntfe_model.specs.declared.nogood.Push.{Push}
-use Rattle.ntfe_model.specs.Stars.{IsStar, IsMember, IsFrst, Induces, order_of}
+use Rattle.ntfe_model.specs.Stars.{IsStar, IsMember, order_of}
 use Rattle.ntfe_model.specs.RunText.{Form, Block, Kept, IsStarOf, IsBlockOf, IsRunText, nothing_kept}
 use Rattle.ntfe_model.proofs.Listings.{listing_same, listing_unique}
 use Rattle.ntfe_model.proofs.Orders.{below_once}
-use Rattle.ntfe_words.specs.CommandLine.{IsMeaning}
 use Rattle.ntfe_words.specs.declared.command.Command.{Command}
 use Rattle.ntfe_words.specs.declared.command.Command.TheVariants as command
 use Rattle.ntfe_run.specs.Edges.{Edges}

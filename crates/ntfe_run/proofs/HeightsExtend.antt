@@ -1,5 +1,5 @@
 -- The heights of a choice extend it.
-use Rattle.std.proofs.Common.{◌≡◌, ℕ, ◌<◌, ◌≤◌, subst, arith, refl, ℤ, pos, ◌<ℤ◌, ◌≤ℤ◌, List, [], length, map, get_or, None}
+use Rattle.std.proofs.Common.{ℕ, ◌<◌, subst, arith, ℤ, pos, ◌<ℤ◌, ◌≤ℤ◌, List, [], length, map, get_or, None}
 use Rattle.std.specs.Prelude.{All}
 use Rattle.std.proofs.lemmas.Int.{ints}
 use Rattle.std.proofs.lemmas.List.{length-map, get_or-map}

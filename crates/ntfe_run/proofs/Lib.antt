@@ -6,6 +6,7 @@ pub mod BegunFixed
 pub mod BegunStops
 pub mod KeptStarts
 pub mod ListEnds
+pub mod DemoEnds
 pub mod NumberedLines
 pub mod HeightsExtend
 pub mod Headline

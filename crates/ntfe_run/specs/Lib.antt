@@ -1,5 +1,6 @@
 pub mod Edges
 pub mod Rooms
+pub mod Demo
 pub mod Commands
 pub mod Answers
 pub mod Headline

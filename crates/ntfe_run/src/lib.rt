@@ -2,6 +2,7 @@
 #![tactic(auto)]
 
 mod commands;
+mod demo_lines;
 mod inputs;
 mod laws;
 mod listing;
