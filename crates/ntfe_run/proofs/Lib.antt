@@ -7,7 +7,6 @@ pub mod BegunStops
 pub mod KeptStarts
 pub mod ListEnds
 pub mod NumberedLines
-pub mod HeightsExtend
 pub mod Headline
 pub mod PartDecisions
 pub mod AllItems
