@@ -1,9 +1,10 @@
-//! What the fine regular star triangulations of a geometry leave on its two-faces.
-ghost use Rattle.std.specs.Prelude.{◌<◌, ℕ, List, length};
+//! What the fine regular star triangulations of a geometry leave on its two-faces, and that a run has a text.
+ghost use Rattle.std.specs.Prelude.{◌≡◌, ◌<◌, ℕ, List, Option, length};
 ghost use Rattle.ntfe_model.specs.Shapes.{Shape, IsShape};
 ghost use Rattle.ntfe_model.specs.Charts.{patch_at};
 ghost use Rattle.ntfe_model.specs.Words.{IsItem};
 ghost use Rattle.ntfe_model.specs.Stars.{IsFrst, Leaves};
+ghost use Rattle.ntfe_model.specs.RunText.{Form, Block, Kept, AreBlocks, IsRunText};
 ghost use Rattle.ntfe_model.specs.declared.triangulation.Triangulation.{Triangulation};
 
 /// A law: a fine regular star triangulation leaves an item on each two-face, so it induces a choice.
@@ -13,4 +14,13 @@ ghost use Rattle.ntfe_model.specs.declared.triangulation.Triangulation.{Triangul
 /// is the law.
 pub fn restriction_is_item()
     ensures { (g : Shape) (star : List (List ℕ)) (f : ℕ) → IsShape g → IsFrst g.pair.dual g.points star → f < length g.faces → (n : ℕ) × (x : Triangulation) × IsItem (patch_at g f) n x × Leaves (patch_at g f) star x }
+{}
+
+/// A law: for every geometry, form and start the list of the blocks of exactly the extendable choices
+/// after the start exists; so for all that may be kept and every limit the text of a run exists, and
+/// there is only one. The function does nothing: its contract is the law.
+pub fn run_text_exists()
+    ensures blocks { (g : Shape) (form : Form) (start : Option (List ℕ)) → IsShape g → (blocks : List Block) × AreBlocks g form start blocks }
+    ensures text { (g : Shape) (form : Form) (kept : Kept) (limit : Option ℕ) → IsShape g → (text : List ℕ) × IsRunText g form kept limit text }
+    ensures only { (g : Shape) (form : Form) (kept : Kept) (limit : Option ℕ) (text other : List ℕ) → IsShape g → IsRunText g form kept limit text → IsRunText g form kept limit other → text ≡ other }
 {}
