@@ -8,6 +8,7 @@ use Rattle.std.specs.List.{list_any}
 use Rattle.std.proofs.Math.Seq.{take-append_seam}
 use Rattle.std.proofs.lemmas.Bool.{ne_eqb}
 use Rattle.std.proofs.lemmas.List.{append-nil, append_cancel_left, length-append, take-append-le}
+use Rattle.std.proofs.lemmas.List.Concat.{flat_map-append}
 use Rattle.std.proofs.lemmas.List.Elements.{All-nil, All-cons, All-head, All-tail, All-append, All-weaker}
 use Rattle.ntfe_model.specs.Pairs.{VertexLists}
 use Rattle.ntfe_model.specs.RunText.{Form, Block, Kept, nothing_kept, spaced, number_line, signed_line, push_line, pair_lines, head_text, star_lines, block_text}
@@ -15,12 +16,13 @@ use Rattle.ntfe_model.specs.Earlier.{Layout, Place, Reading, Reads, IsAllowed, I
 use Rattle.ntfe_model.specs.Earlier.Place.{class_or_end, heights_of, star_of, simplices_of, nothing}
 use Rattle.ntfe_model.specs.declared.nogood.Push.{Push}
 use Rattle.ntfe_model.specs.declared.nogood.Push.TheVariants.{Up, Down}
+use Rattle.class_text.specs.Earlier.{last_choice}
 use Rattle.class_text.proofs.Cuts.{is_feed}
 use Rattle.class_text.proofs.FieldLists.{same_head}
 use Rattle.class_text.proofs.LineFields.{feed_off}
 use Rattle.class_text.proofs.NumberTexts.{IsDigit, decimal_digits, number_text, number_text_fed, small_numbers}
 use Rattle.class_text.proofs.ReadLines.{allowed_read}
-use Rattle.class_text.proofs.TextLines.{IsOneLine, fed, sizes, fed_size, fed_append, sizes_append, cut_of, first_lines, EndsFed, ends_after, whole_text}
+use Rattle.class_text.proofs.TextLines.{IsOneLine, fed, sizes, fed_size, sizes_append, cut_of, first_lines, EndsFed, ends_after, whole_text}
 
 -- ---- the lines of a block
 
@@ -53,7 +55,7 @@ block_fed b = λ i. number_text_fed (codes "class") b.choice i ++ (heights_fed b
 
 blocks_fed : (bs : List Block) → flat_map block_text bs ≡ fed (flat_map block_lines bs)
 blocks_fed [] = refl
-blocks_fed (b ∷ bs) = (λ i. block_fed b i ++ blocks_fed bs i) ∙ sym (fed_append (block_lines b) (flat_map block_lines bs))
+blocks_fed (b ∷ bs) = (λ i. block_fed b i ++ blocks_fed bs i) ∙ sym (flat_map-append with_feed (block_lines b) (flat_map block_lines bs))
 
 -- ---- each is one line
 
@@ -242,11 +244,7 @@ module _ (l : Layout) (few : l.items ≤ 2 ^ 32) (rest : List (List ℕ)) (t : R
 
 -- ---- what is kept
 
-abbrev pub last_from : Option (List ℕ) → List Block → Option (List ℕ)
-last_from start [] = start
-last_from start (b ∷ bs) = last_from (Some b.choice) bs
-
-pub last_of_more : (start : Option (List ℕ)) (bs : List Block) (b : Block) → last_from start (bs ++ b ∷ []) ≡ Some b.choice
+pub last_of_more : (start : Option (List ℕ)) (bs : List Block) (b : Block) → last_choice start (bs ++ b ∷ []) ≡ Some b.choice
 last_of_more start [] b = refl
 last_of_more start (c ∷ bs) b = last_of_more (Some c.choice) bs b
 
@@ -255,20 +253,16 @@ kept_size l done = length (head_text l.pair l.form) + sizes (flat_map block_line
 
 -- the head and these blocks
 abbrev pub kept_at : Layout → List Block → Kept
-kept_at l done = record { bytes = length (head_text l.pair l.form ++ flat_map block_text done); blocks = length done; last = last_from None done }
+kept_at l done = record { bytes = length (head_text l.pair l.form ++ flat_map block_text done); blocks = length done; last = last_choice None done }
 
 size_at : (l : Layout) (done : List Block) → length (head_text l.pair l.form ++ flat_map block_text done) ≡ kept_size l done
 size_at l done =
     length-append (head_text l.pair l.form) (flat_map block_text done) ∙ ap (λ n. length (head_text l.pair l.form) + n) (ap length (blocks_fed done) ∙ fed_size (flat_map block_lines done))
 
-lines_append : (xs ys : List Block) → flat_map block_lines (xs ++ ys) ≡ flat_map block_lines xs ++ flat_map block_lines ys
-lines_append [] ys = refl
-lines_append (b ∷ xs) ys = ap (λ (t : List (List ℕ)). block_lines b ++ t) (lines_append xs ys) ∙ sym (append_assoc (block_lines b) (flat_map block_lines xs) (flat_map block_lines ys))
-
 size_more : (l : Layout) (done : List Block) (b : Block) → kept_size l (done ++ b ∷ []) ≡ kept_size l done + sizes (block_lines b)
 size_more l done b =
     let e : flat_map block_lines (b ∷ []) ≡ block_lines b = append-nil (block_lines b) in
-    let f : sizes (flat_map block_lines (done ++ b ∷ [])) ≡ sizes (flat_map block_lines done) + sizes (block_lines b) = ap sizes (lines_append done (b ∷ []) ∙ ap (λ (t : List (List ℕ)). flat_map block_lines done ++ t) e) ∙ sizes_append (flat_map block_lines done) (block_lines b) in
+    let f : sizes (flat_map block_lines (done ++ b ∷ [])) ≡ sizes (flat_map block_lines done) + sizes (block_lines b) = ap sizes (flat_map-append block_lines done (b ∷ []) ∙ ap (λ (t : List (List ℕ)). flat_map block_lines done ++ t) e) ∙ sizes_append (flat_map block_lines done) (block_lines b) in
     omega (arith, f)
 
 module _ (l : Layout) (few : l.items ≤ 2 ^ 32) (rest : List (List ℕ)) (t : Reading) (last : List ℕ) (other : get_or (with_feed last) 0 0 ≢ 99) where
@@ -369,8 +363,8 @@ module _ (l : Layout) (few : l.items ≤ 2 ^ 32) (bs : List Block) (shown : All 
   whole_is : head_text l.pair l.form ++ (flat_map block_text bs ++ with_feed last) ≡ fed (head_lines l ++ behind_head)
   whole_is =
       (λ i. head_is i ++ (blocks_fed bs i ++ sym (append-nil (with_feed last)) i))
-      ∙ ap (λ (x : List ℕ). fed (head_lines l) ++ x) (sym (fed_append (flat_map block_lines bs) (last ∷ [])))
-      ∙ sym (fed_append (head_lines l) behind_head)
+      ∙ ap (λ (x : List ℕ). fed (head_lines l) ++ x) (sym (flat_map-append with_feed (flat_map block_lines bs) (last ∷ [])))
+      ∙ sym (flat_map-append with_feed (head_lines l) behind_head)
 
   all_plain : All IsOneLine (head_lines l ++ behind_head)
   all_plain =
@@ -410,13 +404,9 @@ module _ (l : Layout) (few : l.items ≤ 2 ^ 32) (bs : List Block) (shown : All 
         ∙ (λ i. take (n i) ((sym whole ∙ split done left e) i))
         ∙ take-append_seam (head_text l.pair l.form ++ flat_map block_text done) (flat_map block_text left ++ with_feed last)
       where
-        blocks_append : (xs ys : List Block) → flat_map block_text (xs ++ ys) ≡ flat_map block_text xs ++ flat_map block_text ys
-        blocks_append [] ys = refl
-        blocks_append (b ∷ xs) ys = ap (λ (x : List ℕ). block_text b ++ x) (blocks_append xs ys) ∙ sym (append_assoc (block_text b) (flat_map block_text xs) (flat_map block_text ys))
-
         split : (xs ys : List Block) → bs ≡ xs ++ ys → head_text l.pair l.form ++ (flat_map block_text bs ++ with_feed last) ≡ (head_text l.pair l.form ++ flat_map block_text xs) ++ (flat_map block_text ys ++ with_feed last)
         split xs ys f =
-            ap (λ (x : List ℕ). head_text l.pair l.form ++ (x ++ with_feed last)) (ap (flat_map block_text) f ∙ blocks_append xs ys)
+            ap (λ (x : List ℕ). head_text l.pair l.form ++ (x ++ with_feed last)) (ap (flat_map block_text) f ∙ flat_map-append block_text xs ys)
             ∙ ap (λ (x : List ℕ). head_text l.pair l.form ++ x) (append_assoc (flat_map block_text xs) (flat_map block_text ys) (with_feed last))
             ∙ sym (append_assoc (head_text l.pair l.form) (flat_map block_text xs) (flat_map block_text ys ++ with_feed last))
 

@@ -27,10 +27,6 @@ pub fed_size : (xs : List (List ℕ)) → length (fed xs) ≡ sizes xs
 fed_size [] = refl
 fed_size (x ∷ xs) = length-append (with_feed x) (fed xs) ∙ (λ i. length-append x (10 ∷ []) i + fed_size xs i)
 
-pub fed_append : (xs ys : List (List ℕ)) → fed (xs ++ ys) ≡ fed xs ++ fed ys
-fed_append [] ys = refl
-fed_append (x ∷ xs) ys = ap (λ (t : List ℕ). with_feed x ++ t) (fed_append xs ys) ∙ sym (append_assoc (with_feed x) (fed xs) (fed ys))
-
 pub sizes_append : (xs ys : List (List ℕ)) → sizes (xs ++ ys) ≡ sizes xs + sizes ys
 sizes_append [] ys = omega arith
 sizes_append (x ∷ xs) ys = let h = sizes_append xs ys in omega (arith, h)

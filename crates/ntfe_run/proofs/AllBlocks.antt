@@ -31,6 +31,27 @@ decide_after (Some start) c = by (three_ways start c)
     by (inr (inl e)) = inr (λ l. (let itself = subst (λ z. IsBelow z c) e l in below_once c c itself itself))
     by (inr (inr l)) = inr (λ m. below_once start c m l)
 
+-- ---- there is one
+
+module _ (g : Shape) (form : Form) where
+  pub blocks_fixed : (start : Option (List ℕ)) (bs cs : List Block) → AreBlocks g form start bs → AreBlocks g form start cs → bs ≡ cs
+  blocks_fixed start bs cs p q = listing_unique BlockBelow (IsBlockOf g form start) block_once bs cs p q
+
+  module _ (kept : Kept) where
+    same_text : (limit : Option ℕ) (bs : List Block) (t u : List ℕ) → IsTextOf g.pair form kept limit bs t → IsTextOf g.pair form kept limit bs u → t ≡ u
+    same_text None bs t u p q = p ∙ sym q
+    same_text (Some n) bs t u (inl p) (inl q) = p.1 ∙ sym q.1
+    same_text (Some n) bs t u (inl p) (inr q) = absurd (let a = p.0 in let b = q.0 in omega (arith, a, b))
+    same_text (Some n) bs t u (inr p) (inl q) = absurd (let a = p.0 in let b = q.0 in omega (arith, a, b))
+    same_text (Some n) bs t u (inr p) (inr q) = p.1 ∙ sym q.1
+
+    pub text_fixed : (limit : Option ℕ) (t u : List ℕ) → IsRunText g form kept limit t → IsRunText g form kept limit u → t ≡ u
+    text_fixed limit t u p q =
+        let e = blocks_fixed kept.last p.blocks q.blocks p.are q.are in
+        same_text limit q.blocks t u (subst (λ bs. IsTextOf g.pair form kept limit bs t) e p.is) q.is
+
+-- ---- and it exists
+
 module _ (g : Shape) (s : IsShape g) (form : Form) where
   module _ (start : Option (List ℕ)) where
     abbrev IsOfChoice : List ℕ → Block → Type 0
@@ -67,9 +88,6 @@ module _ (g : Shape) (s : IsShape g) (form : Form) where
               (λ b p. p.2.0) (λ b k. (b.choice, k.extendable.items, (k, refl))),
         )
 
-    blocks_fixed : (bs cs : List Block) → AreBlocks g form start bs → AreBlocks g form start cs → bs ≡ cs
-    blocks_fixed bs cs p q = listing_unique BlockBelow (IsBlockOf g form start) block_once bs cs p q
-
   module _ (kept : Kept) where
     text_of : (limit : Option ℕ) (bs : List Block) → (text : List ℕ) × IsTextOf g.pair form kept limit bs text
     text_of None bs = (text_without_limit g.pair form kept bs, refl)
@@ -83,20 +101,8 @@ module _ (g : Shape) (s : IsShape g) (form : Form) where
             by (inl l) = absurd (never l)
             by (inr l) = l
 
-    same_text : (limit : Option ℕ) (bs : List Block) (t u : List ℕ) → IsTextOf g.pair form kept limit bs t → IsTextOf g.pair form kept limit bs u → t ≡ u
-    same_text None bs t u p q = p ∙ sym q
-    same_text (Some n) bs t u (inl p) (inl q) = p.1 ∙ sym q.1
-    same_text (Some n) bs t u (inl p) (inr q) = absurd (let a = p.0 in let b = q.0 in omega (arith, a, b))
-    same_text (Some n) bs t u (inr p) (inl q) = absurd (let a = p.0 in let b = q.0 in omega (arith, a, b))
-    same_text (Some n) bs t u (inr p) (inr q) = p.1 ∙ sym q.1
-
     pub text_exists : (limit : Option ℕ) → (text : List ℕ) × IsRunText g form kept limit text
     text_exists limit =
         let bs = blocks_listed kept.last in
         let t = text_of limit bs.0 in
         (t.0, record { blocks = bs.0; are = bs.1; is = t.1 })
-
-    pub text_fixed : (limit : Option ℕ) (t u : List ℕ) → IsRunText g form kept limit t → IsRunText g form kept limit u → t ≡ u
-    text_fixed limit t u p q =
-        let e = blocks_fixed kept.last p.blocks q.blocks p.are q.are in
-        same_text limit q.blocks t u (subst (λ bs. IsTextOf g.pair form kept limit bs t) e p.is) q.is

@@ -14,4 +14,5 @@ pub mod AllItems
 pub mod CountedItems
 pub mod AllChoices
 pub mod AllBlocks
+pub mod KeptTexts
 pub mod RestrictedItems

@@ -12,7 +12,7 @@ mod reading;
 mod status;
 mod top;
 
-pub use laws::{restriction_is_item, run_text_exists};
+pub use laws::{restriction_is_item, resumed_text_is_whole, run_text_exists};
 pub use status::{Refusal, Status};
 pub use top::{run, run_alone};
 

@@ -1,14 +1,14 @@
 -- One block more, and what is listed where nothing is left.
-use Rattle.std.proofs.Common.{◌≡◌, ℕ, ◌<◌, ◌⊎◌, inl, inr, ⊎_elim, refl, sym, ap, ◌∙◌, subst, arith, ℤ, List, [], ◌∷◌, ◌++◌, length, Some, None}
-use Rattle.std.specs.Prelude.{Option, Contains, All}
+use Rattle.std.proofs.Common.{◌≡◌, ℕ, ◌⊎◌, inl, inr, ⊎_elim, refl, sym, ap, ◌∙◌, subst, arith, ℤ, List, [], ◌∷◌, ◌++◌, Some, None}
+use Rattle.std.specs.Prelude.{Option, Contains}
 use Rattle.std.proofs.lemmas.List.Elements.{All-contains, All-cons, All-nil}
 use Rattle.ntfe_model.specs.Lists.{IsListing, IsBelow}
-use Rattle.ntfe_model.specs.Shapes.{Shape}
 use Rattle.ntfe_model.specs.Keys.{IsAfter, IsClass}
-use Rattle.ntfe_model.specs.RunText.{Form, Block, IsBlockOf, AreBlocks}
-use Rattle.ntfe_model.proofs.Listings.{Contains-here, Contains-there, Contains-none, listing_append, listing_same, listing_nil}
+use Rattle.ntfe_model.specs.RunText.{Block, IsBlockOf, AreBlocks}
+use Rattle.ntfe_model.proofs.Listings.{Contains-here, Contains-there, listing_append, listing_same, listing_nil}
 use Rattle.ntfe_model.proofs.Orders.{below_chain, below_once, three_ways}
-use Rattle.steal_workers.specs.Listings.{Listed, IsUpTo, AreBlocksTo, AreBlocksBelow, last_choice, ComesNext, NoneIsLeft}
+use Rattle.class_text.specs.Earlier.{last_choice}
+use Rattle.steal_workers.specs.Listings.{Listed, IsUpTo, AreBlocksTo, AreBlocksBelow, ComesNext, NoneIsLeft}
 use Rattle.steal_workers.specs.Blocks.{IsClassBlock}
 use Rattle.steal_workers.proofs.ClassBlocks.{block_fixed, class_block}
 
@@ -47,10 +47,6 @@ last_is start (b ∷ bs) = by (last_is (Some b.choice) bs)
         → (last_choice start (b ∷ bs) ≡ start) ⊎ ((c : Block) × Contains (b ∷ bs) c × (last_choice start (b ∷ bs) ≡ Some c.choice))
     by (inl e) = inr (b, Contains-here b b bs refl, e)
     by (inr (c, h, e)) = inr (c, Contains-there c b bs h, e)
-
-pub last_of_more : (start : Option (List ℕ)) (bs : List Block) (b : Block) → last_choice start (bs ++ b ∷ []) ≡ Some b.choice
-last_of_more start [] b = refl
-last_of_more start (x ∷ bs) b = last_of_more (Some x.choice) bs b
 
 module _ (l : Listed) where
   Own : Block → Type 0

@@ -5,5 +5,5 @@ pub returns : goal.returns
 returns c = record {
   blocks = λ g form start s. blocks_listed g s form start;
   text = λ g form kept limit s. text_exists g s form kept limit;
-  only = λ g form kept limit text other s p q. text_fixed g s form kept limit text other p q;
+  only = λ g form kept limit text other p q. text_fixed g form kept limit text other p q;
 }
