@@ -22,14 +22,25 @@ BlockBelow b c = IsBelow b.choice c.choice
 pub block_once : (b c : Block) → BlockBelow b c → BlockBelow c b → ⊥
 block_once b c = below_once b.choice c.choice
 
+pub decide_below : (c k : List ℕ) → Decided (IsBelow c k)
+decide_below c k = by (three_ways c k)
+  where
+    by : IsBelow c k ⊎ ((c ≡ k) ⊎ IsBelow k c) → Decided (IsBelow c k)
+    by (inl l) = inl l
+    by (inr (inl e)) = inr (λ l. (let itself = subst (λ z. IsBelow z k) e l in below_once k k itself itself))
+    by (inr (inr l)) = inr (λ m. below_once c k m l)
+
+pub decide_same : (c k : List ℕ) → Decided (c ≡ k)
+decide_same c k = by (three_ways c k)
+  where
+    by : IsBelow c k ⊎ ((c ≡ k) ⊎ IsBelow k c) → Decided (c ≡ k)
+    by (inl l) = inr (λ e. (let itself = subst (λ z. IsBelow z k) e l in below_once k k itself itself))
+    by (inr (inl e)) = inl e
+    by (inr (inr l)) = inr (λ e. (let itself = subst (IsBelow k) e l in below_once k k itself itself))
+
 decide_after : (start : Option (List ℕ)) (c : List ℕ) → Decided (IsAfter start c)
 decide_after None c = inl tt
-decide_after (Some start) c = by (three_ways start c)
-  where
-    by : IsBelow start c ⊎ ((start ≡ c) ⊎ IsBelow c start) → Decided (IsBelow start c)
-    by (inl l) = inl l
-    by (inr (inl e)) = inr (λ l. (let itself = subst (λ z. IsBelow z c) e l in below_once c c itself itself))
-    by (inr (inr l)) = inr (λ m. below_once start c m l)
+decide_after (Some start) c = decide_below start c
 
 -- ---- there is one
 

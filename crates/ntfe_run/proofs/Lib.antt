@@ -14,5 +14,8 @@ pub mod AllItems
 pub mod CountedItems
 pub mod AllChoices
 pub mod AllBlocks
+pub mod Beginnings
+pub mod ShownChoices
+pub mod DoneShows
 pub mod KeptTexts
 pub mod RestrictedItems
