@@ -1,6 +1,7 @@
 -- What is kept of a beginning of a run's text, and the text that goes on after it, are together the whole text.
 --     resumed_text      whatever the limits
 --     resumed_whole      without limits: the text itself
+--     resumed_written      of what commands write
 use Rattle.std.proofs.Common.{◌≡◌, ◌≢◌, ◌∙◌, ℕ, ◌+◌, ◌-◌, ◌^◌, ◌<◌, ◌≤◌, ◌⊎◌, inl, inr, cond, min, max, refl, sym, ap, subst, arith, List, [], ◌∷◌, ◌++◌, length, flat_map, take, drop, get_or, append_assoc, Some, None, All}
 use Rattle.std.specs.Prelude.{Option, Contains, codes}
 use Rattle.std.proofs.Math.Seq.{take-append-add}
@@ -8,7 +9,7 @@ use Rattle.std.proofs.lemmas.Bool.{ne_eqb}
 use Rattle.std.proofs.lemmas.List.{append-nil, length-append, take-append-drop}
 use Rattle.std.proofs.lemmas.List.Concat.{flat_map-append}
 use Rattle.std.proofs.lemmas.List.Elements.{All-contains, All-weaker, Contains-append_left}
-use Rattle.ntfe_model.specs.Shapes.{Shape}
+use Rattle.ntfe_model.specs.Shapes.{Shape, IsShape}
 use Rattle.ntfe_model.specs.Earlier.{Layout, IsKeptOf, with_feed}
 use Rattle.ntfe_model.specs.RunText.{Form, Block, Kept, IsStarOf, IsBlockOf, AreBlocks, IsTextOf, IsRunText, nothing_kept, head_text, head_due, block_text, end_line, limit_line, text_without_limit}
 use Rattle.ntfe_model.proofs.Listings.{AllPairs-head, AllPairs-tail, All-from_contains, Contains-cases, Contains-there}
@@ -16,8 +17,11 @@ use Rattle.class_text.specs.Earlier.{last_choice}
 use Rattle.class_text.proofs.KeptBlocks.{IsShown, kept_at, kept_beginning, numbers_plain}
 use Rattle.class_text.proofs.NumberTexts.{number_text}
 use Rattle.class_text.proofs.TextLines.{IsOneLine}
+use Rattle.ntfe_words.specs.declared.command.Options.{Options}
+use Rattle.ntfe_run.specs.Commands.{form_of_options, listed_with, IsListText, IsListBegun}
 use Rattle.ntfe_run.specs.Earlier.{layout}
 use Rattle.ntfe_run.proofs.AllBlocks.{BlockBelow, block_once, blocks_fixed, text_fixed}
+use Rattle.ntfe_run.proofs.Beginnings.{list_text_is, list_begins}
 use Rattle.steal_workers.proofs.NextBlocks.{after_chain}
 
 module _ (g : Shape) (form : Form) where
@@ -172,3 +176,12 @@ resumed_whole g form text earlier cut rest kept h e k r =
   where
     never : (n : ℕ) → (let o : Option ℕ = None in o ≡ Some n) → kept.blocks ≤ n
     never n o = cc
+
+-- what `classes` wrote, cut anywhere, and what `resume` wrote in the same form
+pub resumed_written : (o p : Options) (g : Shape) (text earlier cut rest : List ℕ) (kept : Kept) → IsShape g → form_of_options p ≡ form_of_options o → IsListBegun (listed_with o g nothing_kept) nothing_kept text → text ≡ earlier ++ cut
+    → IsKeptOf (layout (form_of_options o) g) earlier kept → ((n : ℕ) → p.limit ≡ Some n → kept.blocks ≤ n) → IsListText (listed_with p g kept) kept rest → IsRunText g (form_of_options p) nothing_kept p.limit (take kept.bytes earlier ++ rest)
+resumed_written o p g text earlier cut rest kept s same begun e k few r =
+    let all = list_begins o g s nothing_kept text begun in
+    let goes_on = subst (λ (f : Form). IsRunText g f kept p.limit rest) same (list_text_is p g s kept rest r) in
+    subst (λ (f : Form). IsRunText g f nothing_kept p.limit (take kept.bytes earlier ++ rest)) (sym same)
+    (resumed_text g (form_of_options o) all.0 p.limit (text ++ all.1) earlier (cut ++ all.1) rest kept all.2 (ap (λ (x : List ℕ). x ++ all.1) e ∙ append_assoc earlier cut all.1) k few goes_on)
