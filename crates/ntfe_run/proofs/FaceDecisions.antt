@@ -1,7 +1,7 @@
 -- Unit triples and boundary steps of a two-face are decided, so they can be searched for.
 --     some_unit      a unit triple, or there is none
 --     steps_listed      the boundary steps, in order
-use Rattle.std.proofs.Common.{◌≡◌, ◌≢◌, ◌∙◌, ℕ, ◌<◌, ◌⊎◌, inl, inr, ⊎_elim, refl, sym, arith, ℤ, pos, negsuc, ◌-ℤ◌, ◌*ℤ◌, ◌<ℤ◌, ◌≤ℤ◌, List, map, flat_map, get_or}
+use Rattle.std.proofs.Common.{◌≡◌, ◌≢◌, ◌∙◌, ℕ, ◌<◌, ◌⊎◌, inl, inr, ⊎_elim, refl, sym, arith, ℤ, pos, negsuc, ◌*ℤ◌, ◌<ℤ◌, ◌≤ℤ◌, List, map, flat_map, get_or}
 use Rattle.std.specs.Int.RustNames.{int_div}
 use Rattle.std.proofs.lemmas.Int.{ints}
 use Rattle.ntfe_nums.specs.Vectors.{Vector, numbers, difference, dot}
@@ -25,18 +25,11 @@ use Rattle.star_builder.proofs.Searches.{some_or_all}
 
 -- ---- segments
 
-at_least : (x y : ℤ) → Decided (x ≤ℤ y)
-at_least x y = ⊎_elim (λ l. inr (λ m. absurd (omega (arith, ints, l, m)))) (λ n. inl (not_below n)) (decide_positive (x -ℤ y))
-  where
-    not_below : (pos 0 <ℤ (x -ℤ y) → ⊥) → x ≤ℤ y
-    not_below n = by (let c : (x ≤ℤ y) ⊎ (pos 0 <ℤ (x -ℤ y)) = grind (arith, ints) in c)
-      where
-        by : (x ≤ℤ y) ⊎ (pos 0 <ℤ (x -ℤ y)) → x ≤ℤ y
-        by (inl l) = l
-        by (inr l) = absurd (n l)
+order : (x y : ℤ) → (x ≤ℤ y) ⊎ (y <ℤ x)
+order x y = grind (arith, ints)
 
 decide_on_segment : (a b x : Vector) → a ≢ b → Decided (IsOnSegment a b x)
-decide_on_segment a b x apart = by (at_least (pos 0) share) (at_least share whole) (decide_all_below Shared shared 4)
+decide_on_segment a b x apart = by (order (pos 0) share) (order share whole) (decide_all_below Shared shared 4)
   where
     whole : ℤ
     whole = dot (difference b a) (difference b a)
@@ -50,18 +43,11 @@ decide_on_segment a b x apart = by (at_least (pos 0) share) (at_least share whol
     shared : (k : ℕ) → Decided (Shared k)
     shared k = decide_equal (whole *ℤ get_or (numbers (difference x a)) k (pos 0)) (share *ℤ get_or (numbers (difference b a)) k (pos 0))
 
-    below : (y z : ℤ) → (y ≤ℤ z → ⊥) → z <ℤ y
-    below y z n = at (let c : (y ≤ℤ z) ⊎ (z <ℤ y) = grind (arith, ints) in c)
-      where
-        at : (y ≤ℤ z) ⊎ (z <ℤ y) → z <ℤ y
-        at (inl l) = absurd (n l)
-        at (inr l) = l
-
-    by : Decided (pos 0 ≤ℤ share) → Decided (share ≤ℤ whole) → Decided ((k : ℕ) → k < 4 → Shared k) → Decided (IsOnSegment a b x)
+    by : (pos 0 ≤ℤ share) ⊎ (share <ℤ pos 0) → (share ≤ℤ whole) ⊎ (whole <ℤ share) → Decided ((k : ℕ) → k < 4 → Shared k) → Decided (IsOnSegment a b x)
     by (inl h) (inl k) (inl e) = inl (on_segment a b x whole share refl refl apart h k e)
     by (inl h) (inl k) (inr n) = inr (λ o. n (λ i l. share_at a b x whole share refl refl o i l))
-    by (inl h) (inr n) e = inr (λ o. share_high a b x whole share refl refl o (below share whole n))
-    by (inr n) k e = inr (λ o. share_low a b x whole share refl refl o (below (pos 0) share n))
+    by (inl h) (inr l) e = inr (λ o. share_high a b x whole share refl refl o l)
+    by (inr l) k e = inr (λ o. share_low a b x whole share refl refl o l)
 
 module _ (h : Patch) where
   decide_of : (a : ℕ) → Decided (IsOf h a)

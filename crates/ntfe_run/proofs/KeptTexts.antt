@@ -69,32 +69,21 @@ module _ (g : Shape) (form : Form) where
     other : get_or (with_feed last) 0 0 ≢ 99
     is : head_text g.pair form ++ (flat_map block_text first ++ with_feed last) ≡ text
 
-  with_end : (bs first others : List Block) (c : ℕ) (text : List ℕ) → bs ≡ first ++ others → text ≡ (head_text g.pair form ++ flat_map block_text first) ++ end_line c → IsBegunBy bs text
-  with_end bs first others c text e f = record {
-    first = first;
-    others = others;
-    all = e;
-    last = number_text (codes "end") (c ∷ []);
-    one = numbers_plain (codes "end") (c ∷ []) refl;
-    other = λ k. (let m : 101 ≡ 99 = k in absurd (omega (arith, m)));
-    is = sym (append_assoc (head_text g.pair form) (flat_map block_text first) (end_line c)) ∙ sym f;
-  }
+  with_last : (bs first others : List Block) (last text : List ℕ) → bs ≡ first ++ others → IsOneLine last → get_or (with_feed last) 0 0 ≢ 99 → text ≡ (head_text g.pair form ++ flat_map block_text first) ++ with_feed last → IsBegunBy bs text
+  with_last bs first others last text e one other f =
+      record { first = first; others = others; all = e; last = last; one = one; other = other; is = sym (append_assoc (head_text g.pair form) (flat_map block_text first) (with_feed last)) ∙ sym f }
 
-  with_limit : (bs first others : List Block) (c : ℕ) (text : List ℕ) → bs ≡ first ++ others → text ≡ (head_text g.pair form ++ flat_map block_text first) ++ limit_line c → IsBegunBy bs text
-  with_limit bs first others c text e f = record {
-    first = first;
-    others = others;
-    all = e;
-    last = number_text (codes "limit") (c ∷ []);
-    one = numbers_plain (codes "limit") (c ∷ []) refl;
-    other = λ k. (let m : 108 ≡ 99 = k in absurd (omega (arith, m)));
-    is = sym (append_assoc (head_text g.pair form) (flat_map block_text first) (limit_line c)) ∙ sym f;
-  }
+  not_class : (b : ℕ) → 99 < b → b ≢ 99
+  not_class b l e = absurd (omega (arith, l, e))
+
+  with_end : (bs : List Block) (c : ℕ) (text : List ℕ) → text ≡ (head_text g.pair form ++ flat_map block_text bs) ++ end_line c → IsBegunBy bs text
+  with_end bs c text e = with_last bs bs [] (number_text (codes "end") (c ∷ [])) text (sym (append-nil bs)) (numbers_plain (codes "end") (c ∷ []) refl) (not_class 101 (omega arith)) e
 
   begun_by : (limit : Option ℕ) (bs : List Block) (text : List ℕ) → IsTextOf g.pair form nothing_kept limit bs text → IsBegunBy bs text
-  begun_by None bs text e = with_end bs bs [] (min (2 ^ 63) (0 + length bs)) text (sym (append-nil bs)) e
-  begun_by (Some n) bs text (inl h) = with_end bs bs [] (min (2 ^ 63) (0 + length bs)) text (sym (append-nil bs)) h.1
-  begun_by (Some n) bs text (inr h) = with_limit bs (take (n - 0) bs) (drop (n - 0) bs) (max 0 n) text (sym (take-append-drop (n - 0) bs)) h.1
+  begun_by None bs text e = with_end bs (min (2 ^ 63) (0 + length bs)) text e
+  begun_by (Some n) bs text (inl h) = with_end bs (min (2 ^ 63) (0 + length bs)) text h.1
+  begun_by (Some n) bs text (inr h) =
+      with_last bs (take (n - 0) bs) (drop (n - 0) bs) (number_text (codes "limit") (max 0 n ∷ [])) text (sym (take-append-drop (n - 0) bs)) (numbers_plain (codes "limit") (max 0 n ∷ []) refl) (not_class 108 (omega arith)) h.1
 
   -- ---- both parts together
 
