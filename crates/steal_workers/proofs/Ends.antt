@@ -16,7 +16,7 @@ use Rattle.choice_board.specs.Settling.{counted}
 use Rattle.choice_board.specs.declared.outcome.Outcome.{Outcome}
 use Rattle.choice_board.specs.declared.outcome.Outcome.TheVariants.{Class, Wide, Far}
 use Rattle.class_text.proofs.KeptBlocks.{last_of_more}
-use Rattle.steal_workers.specs.Listings.{Bytes, Listed, Progress, IsWithinLimit, IsSmallLimit, IsAtLimit, at_start, HasWritten, HasServed, ComesNext, IsNextOutcome, NoneIsLeft, GoesOn, EndsAs, TakesAll, TakesDue, TakesBelow, TakesPart}
+use Rattle.steal_workers.specs.Listings.{Bytes, Listed, Progress, IsWithinLimit, IsSmallLimit, IsAtLimit, last_choice, at_start, HasWritten, HasServed, ComesNext, IsNextOutcome, NoneIsLeft, GoesOn, EndsAs, TakesAll, TakesDue, TakesBelow, TakesPart}
 use Rattle.steal_workers.specs.Blocks.{IsClassBlock, WritesBlock, MovesTo}
 use Rattle.steal_workers.specs.Ends.{end_of}
 use Rattle.steal_workers.specs.declared.served.Served.{Served}

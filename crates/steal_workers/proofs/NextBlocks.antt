@@ -8,8 +8,7 @@ use Rattle.ntfe_model.specs.Keys.{IsAfter, IsClass}
 use Rattle.ntfe_model.specs.RunText.{Form, Block, IsBlockOf, AreBlocks}
 use Rattle.ntfe_model.proofs.Listings.{Contains-here, Contains-there, Contains-none, listing_append, listing_same, listing_nil}
 use Rattle.ntfe_model.proofs.Orders.{below_chain, below_once, three_ways}
-use Rattle.class_text.specs.Earlier.{last_choice}
-use Rattle.steal_workers.specs.Listings.{Listed, IsUpTo, AreBlocksTo, AreBlocksBelow, ComesNext, NoneIsLeft}
+use Rattle.steal_workers.specs.Listings.{Listed, IsUpTo, AreBlocksTo, AreBlocksBelow, last_choice, ComesNext, NoneIsLeft}
 use Rattle.steal_workers.specs.Blocks.{IsClassBlock}
 use Rattle.steal_workers.proofs.ClassBlocks.{block_fixed, class_block}
 

@@ -10,7 +10,7 @@ use Rattle.ntfe_model.specs.Keys.{IsAfter, IsClass, MayOverflow, MayLimit}
 use Rattle.ntfe_model.specs.RunText.{Form, Block, IsBlockOf, AreBlocks, IsUnderLimit, block_text}
 use Rattle.choice_board.specs.declared.outcome.Outcome.{Outcome}
 use Rattle.choice_board.specs.declared.outcome.Outcome.TheVariants as outcome
-use Rattle.class_text.specs.Earlier.{last_choice}
+pub use Rattle.class_text.specs.Earlier.{last_choice}
 use Rattle.steal_workers.specs.declared.served.Served.{Served}
 use Rattle.steal_workers.specs.declared.served.Served.TheVariants as served
 
