@@ -20,7 +20,7 @@ use Rattle.ntfe_run.specs.Headline.{IsInducingStar, IsInducedBlock, IsHeadlineTe
 use Rattle.ntfe_run.specs.declared.status.Status.{Status}
 use Rattle.ntfe_run.specs.declared.status.Status.TheVariants.{Done, Usage, Refused, Overflow, Limit, Memory, ReadFault, WriteFault}
 use Rattle.ntfe_run.proofs.Completeness.{meaning_fixed}
-use Rattle.ntfe_run.proofs.HeightsExtend.{heights_extend}
+use Rattle.steal_workers.proofs.HeightsExtend.{heights_extend}
 use Rattle.star_builder.proofs.FineStars.{extended_star}
 use Rattle.star_builder.proofs.InducedHeights.{induced_extendable}
 use Rattle.star_builder.proofs.StarListing.{star_exists, push_order}

@@ -8,8 +8,15 @@ pub mod KeptStarts
 pub mod ListEnds
 pub mod DemoEnds
 pub mod NumberedLines
-pub mod HeightsExtend
 pub mod Headline
 pub mod PartDecisions
+pub mod FaceDecisions
 pub mod AllItems
+pub mod CountedItems
+pub mod AllChoices
+pub mod AllBlocks
+pub mod Beginnings
+pub mod ShownChoices
+pub mod DoneShows
+pub mod KeptTexts
 pub mod RestrictedItems

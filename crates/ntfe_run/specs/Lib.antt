@@ -10,3 +10,4 @@ pub mod Codes
 pub mod Messages
 pub mod Parts
 pub mod Statuses
+pub mod Shown

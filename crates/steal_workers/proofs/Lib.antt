@@ -7,3 +7,5 @@ pub mod LiveKeys
 pub mod Settled
 pub mod HandedOut
 pub mod Probed
+pub mod HeightsExtend
+pub mod ExtendableBlocks

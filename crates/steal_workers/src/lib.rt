@@ -3,6 +3,7 @@
 
 mod alone;
 mod blocks;
+mod laws;
 mod listing;
 mod probing;
 mod served;
@@ -10,6 +11,7 @@ mod stars;
 mod writer;
 
 pub use alone::list_alone;
+pub use laws::extendable_has_block;
 pub use listing::Listing;
 pub use probing::Prober;
 pub use served::Served;
