@@ -50,7 +50,7 @@ module _ (number width : ℕ) (g : Shape) where
   pub nothing_counted : TakesPart own (record { before = None; after = None })
   nothing_counted = record { blocks = []; last = None; are = no_blocks own; within = none_within (Some demo_limit) 0; took = prefix_none None [] }
 
-  pub whole_count : (bytes : Bytes) (count : ℕ) (last : Option (List ℕ)) → TakesAll own bytes count last → IsDemoText number width g (demo_text number g count (codes "end") last)
+  pub whole_count : (bytes : Bytes) (count : ℕ) (last : Option (List ℕ)) → TakesAll own bytes count last → IsDemoText number g (demo_text number g count (codes "end") last)
   whole_count bytes count last w = inl record {
     blocks = w.blocks;
     are = w.are;
@@ -64,7 +64,7 @@ module _ (number width : ℕ) (g : Shape) where
       counted : count ≡ length w.blocks
       counted = let u : 0 + length w.blocks < 1000 = w.under in let c : count ≡ min (2 ^ 63) (0 + length w.blocks) = w.counted in grind (arith, u, c)
 
-  pub limited_count : (bytes : Bytes) (count : ℕ) (last : Option (List ℕ)) → TakesDue own bytes count last → IsDemoText number width g (demo_text number g count (codes "limit") last)
+  pub limited_count : (bytes : Bytes) (count : ℕ) (last : Option (List ℕ)) → TakesDue own bytes count last → IsDemoText number g (demo_text number g count (codes "limit") last)
   limited_count bytes count last w = inr record {
     last = last;
     blocks = w.blocks;
@@ -79,7 +79,7 @@ module _ (number width : ℕ) (g : Shape) where
 
   -- ---- how it ends
 
-  pub lines_end : (text : List ℕ) → IsDemoText number width g text → (a b : Option (List ℕ)) (f h : ℕ) (r : Result (Unit {0}) LineFault) → WritesText a b f h r text
+  pub lines_end : (text : List ℕ) → IsDemoText number g text → (a b : Option (List ℕ)) (f h : ℕ) (r : Result (Unit {0}) LineFault) → WritesText a b f h r text
       → IsDemoEnd number width g (record { before = a; after = b }) (record { before = f; after = h }) (status_of_lines r)
   lines_end text is a b f h (Ok done) w = record { text = text; is = is; all = w.ok }
   lines_end text is a b f h (Err line.Write) w = (record { text = text; is = is; prefix = w.err }, w.cause refl)

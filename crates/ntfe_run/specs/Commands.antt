@@ -11,7 +11,7 @@ use Rattle.steal_workers.specs.Listings.{Listed, AreBlocksTo, IsWithinLimit}
 use Rattle.ntfe_run.specs.Inputs.{IsInputOf, IsRefusalOf}
 use Rattle.ntfe_run.specs.Earlier.{Begun, IsBegunInput, IsBegunRefusal}
 use Rattle.ntfe_run.specs.Headline.{IsHeadlineText}
-use Rattle.ntfe_run.specs.Demo.{IsDemoOf, IsDemoText, IsStoppedCount}
+use Rattle.ntfe_run.specs.Demo.{IsDemoOf, IsDemoText, IsDemoHeadline, IsStoppedCount}
 use Rattle.ntfe_run.specs.Rooms.{Room}
 
 -- the greatest number of bytes that are read of a pair
@@ -104,19 +104,19 @@ faces_room = record {
 
 -- ---- the classes of a product of two polygons
 
--- `demo`: nothing is read, and the text tells of exactly the extendable choices
+-- `demo`: nothing is read, and the text tells of exactly the extendable choices, up to the limit
 abbrev pub demo_room : ℕ → ℕ → Room
 demo_room number width = record {
   limit = None;
   Input = Shape;
   Holds = λ bytes g. IsDemoOf number g;
   Refuses = λ bytes refusal. ⊥;
-  IsText = IsDemoText number width;
-  IsBegun = IsDemoText number width;
+  IsText = IsDemoText number;
+  IsBegun = IsDemoText number;
   IsWide = λ g choice step number. MayOverflow g None width choice step number;
   IsFar = λ g face key. MayLimit g None width face key;
-  IsStopped = IsStoppedCount width;
-  IsHeadline = λ g text. ⊤;
+  IsStopped = IsStoppedCount;
+  IsHeadline = IsDemoHeadline number;
 }
 
 abbrev pub room_of : Command → Room

@@ -1,10 +1,12 @@
 -- What `demo` counts, and the lines that it writes.
 use Rattle.std.specs.Prelude.{◌≡◌, ◌⊎◌, ℕ, ◌<◌, false, List, [], ◌∷◌, ◌++◌, length, codes, decimal, Option, Some, None, unwrap_or}
+use Rattle.ntfe_model.specs.Lists.{IsListing, IsBelow}
 use Rattle.ntfe_model.specs.Shapes.{Shape, IsShape}
 use Rattle.ntfe_model.specs.declared.nogood.Push.TheVariants.{Up}
-use Rattle.ntfe_model.specs.RunText.{Block, AreBlocks, spaced, number_line}
+use Rattle.ntfe_model.specs.RunText.{Form, Block, IsBlockOf, spaced, number_line}
 use Rattle.polygon_demo.specs.Polygons.{demo_pair}
-use Rattle.steal_workers.specs.Listings.{Listed, AreBlocksTo, AreBlocksBelow, last_choice}
+use Rattle.steal_workers.specs.Listings.{Listed, IsUpTo, last_choice}
+use Rattle.ntfe_run.specs.Headline.{IsInducedBlock}
 
 -- the product of polygon 1 and the polygon with this number, with its points and two-faces
 pub record IsDemoOf (number : ℕ) (g : Shape) : Type 0 where
@@ -15,9 +17,13 @@ pub record IsDemoOf (number : ℕ) (g : Shape) : Type 0 where
 abbrev pub demo_limit : ℕ
 demo_limit = 1000
 
--- what is listed: all classes up to the limit, with pushing up and without stars
+-- the classes are listed with pushing up and without stars
+abbrev pub demo_form : Form
+demo_form = record { push = Up; stars = false }
+
+-- what is listed: all classes up to the limit
 abbrev pub demo_listed : ℕ → Shape → Listed
-demo_listed width g = record { geometry = g; form = record { push = Up; stars = false }; kept = 0; start = None; limit = Some demo_limit; width = width }
+demo_listed width g = record { geometry = g; form = demo_form; kept = 0; start = None; limit = Some demo_limit; width = width }
 
 -- ---- the lines
 
@@ -44,28 +50,36 @@ demo_text number g count how last = size_lines number g ++ (classes_line count h
 
 -- ---- what is counted
 
--- exactly the extendable choices are counted, fewer than the limit
-pub record IsWholeCount (number width : ℕ) (g : Shape) (text : List ℕ) : Type 0 where
+-- exactly the blocks with P are counted, fewer than the limit
+pub record IsWholeCount (P : Block → Type 0) (number : ℕ) (g : Shape) (text : List ℕ) : Type 0 where
   pub blocks : List Block
-  pub are : AreBlocks g (demo_listed width g).form None blocks
+  pub are : IsListing (λ b c. IsBelow b.choice c.choice) P blocks
   pub few : length blocks < demo_limit
   pub is : text ≡ demo_text number g (length blocks) (codes "end") (last_choice None blocks)
 
--- exactly the extendable choices up to one of them are counted, as many as the limit
-pub record IsLimitedCount (number width : ℕ) (g : Shape) (text : List ℕ) : Type 0 where
+-- exactly the blocks with P up to one of them are counted, as many as the limit
+pub record IsLimitedCount (P : Block → Type 0) (number : ℕ) (g : Shape) (text : List ℕ) : Type 0 where
   pub last : Option (List ℕ)
   pub blocks : List Block
-  pub are : AreBlocksTo (demo_listed width g) last blocks
+  pub are : IsListing (λ b c. IsBelow b.choice c.choice) (λ b. P b × IsUpTo last b.choice) blocks
   pub last_is : last ≡ last_choice None blocks
   pub count : length blocks ≡ demo_limit
   pub is : text ≡ demo_text number g demo_limit (codes "limit") last
 
-abbrev pub IsDemoText : ℕ → ℕ → Shape → List ℕ → Type 0
-IsDemoText number width g text = IsWholeCount number width g text ⊎ IsLimitedCount number width g text
+abbrev pub IsCountOf : (Block → Type 0) → ℕ → Shape → List ℕ → Type 0
+IsCountOf P number g text = IsWholeCount P number g text ⊎ IsLimitedCount P number g text
+
+-- the text: exactly the extendable choices are counted, all of them or the first ones
+abbrev pub IsDemoText : ℕ → Shape → List ℕ → Type 0
+IsDemoText number g = IsCountOf (IsBlockOf g demo_form None) number g
+
+-- the same list in the words of triangulations: exactly the choices that fine regular star triangulations induce
+abbrev pub IsDemoHeadline : ℕ → Shape → List ℕ → Type 0
+IsDemoHeadline number g = IsCountOf (IsInducedBlock g demo_form) number g
 
 -- where the counting stops at a choice or a key, nothing is written; all extendable choices below it are counted, fewer than the limit
-pub record IsStoppedCount (width : ℕ) (g : Shape) (bound : List ℕ) (text : List ℕ) : Type 0 where
+pub record IsStoppedCount (g : Shape) (bound : List ℕ) (text : List ℕ) : Type 0 where
   pub blocks : List Block
-  pub are : AreBlocksBelow (demo_listed width g) bound blocks
+  pub are : IsListing (λ b c. IsBelow b.choice c.choice) (λ b. IsBlockOf g demo_form None b × IsBelow b.choice bound) blocks
   pub few : length blocks < demo_limit
   pub nothing : text ≡ []

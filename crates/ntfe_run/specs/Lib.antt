@@ -1,9 +1,9 @@
 pub mod Edges
 pub mod Rooms
-pub mod Demo
 pub mod Commands
 pub mod Answers
 pub mod Headline
+pub mod Demo
 pub mod Inputs
 pub mod Earlier
 pub mod Codes

@@ -104,5 +104,5 @@ WritesLast s taken faults status = (status ≡ status_of_end s) × (taken.after 
 
 -- how the counting ends, and what was taken of its lines: nothing before it has come to its end
 abbrev pub IsDemoEnd : ℕ → ℕ → Shape → Change (Option (List ℕ)) → Change ℕ → Status → Type 0
-IsDemoEnd number width g taken faults Memory = Keeps taken.before taken.after ⊎ TakesPrefix (IsDemoText number width g) taken
+IsDemoEnd number width g taken faults Memory = Keeps taken.before taken.after ⊎ TakesPrefix (IsDemoText number g) taken
 IsDemoEnd number width g taken faults status = IsAnswer (demo_room number width) g taken faults status

@@ -82,7 +82,7 @@ pub fn run_alone<S: Source, K: Sink, E: Sink>(
 ///
 /// - `Done` (0): all of the answer was written. For `classes` without a limit these are the blocks of
 ///   exactly the choices that fine regular star triangulations of the pair induce, each once and in
-///   order; with a limit, the first of them.
+///   order; with a limit, the first of them. `demo` reads nothing, and writes its lines only then.
 /// - `Usage` (2): the words have no meaning. Nothing is read or written.
 /// - `Refused` (3): the input is refused, and nothing is written. The first refusal in this order is
 ///   told: too many bytes, no pair text, no reflexive pair, too many points.
