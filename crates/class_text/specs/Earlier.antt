@@ -1,7 +1,7 @@
 -- What is kept of an earlier output, and the first line of it that is not in place.
-use Rattle.std.specs.Prelude.{◌≡◌, ℕ, ◌+◌, ◌<◌, ◌≤◌, List, ◌∷◌, ◌++◌, length, slice_get, Some, None}
+use Rattle.std.specs.Prelude.{◌≡◌, ℕ, ◌+◌, ◌<◌, ◌≤◌, List, [], ◌∷◌, ◌++◌, length, slice_get, Option, Some, None}
 use Rattle.ntfe_model.specs.Lists.{IsLeast}
-use Rattle.ntfe_model.specs.RunText.{Kept}
+use Rattle.ntfe_model.specs.RunText.{Block, Kept}
 use Rattle.ntfe_model.specs.Earlier.{Layout, Reading, Reads, IsAllowed, IsHeadFault, IsBodyFault, whole_lines}
 use Rattle.ntfe_model.specs.Earlier.Place.{class_or_end}
 use Rattle.class_text.specs.Readers.{reading_of}
@@ -12,6 +12,11 @@ use Rattle.class_text.specs.declared.earlier_fault.EarlierFault.TheVariants.{Hea
 
 abbrev pub kept_of : Earlier → Kept
 kept_of e = record { bytes = e.kept; blocks = e.count; last = e.last }
+
+-- the choice of the last block, or the start where there is none
+abbrev pub last_choice : Option (List ℕ) → List Block → Option (List ℕ)
+last_choice start [] = start
+last_choice start (b ∷ bs) = last_choice (Some b.choice) bs
 
 -- why an earlier output does not go with a run
 abbrev pub HasCause : Layout → List ℕ → EarlierFault → Type 0

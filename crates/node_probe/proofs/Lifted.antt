@@ -1,6 +1,6 @@
 -- Folds that are positive at some heights do not cancel: the sum of positive multiples of them is positive.
 use Rattle.std.proofs.Common.{◌≡◌, ℕ, zero, suc, ◌<◌, ◌≤◌, sym, ap, ◌∙◌, subst, arith, ℤ, pos, negsuc, ◌+ℤ◌, ◌*ℤ◌, ◌<ℤ◌, List, [], ◌∷◌, length, map, get_or}
-use Rattle.std.specs.Prelude.{All, Some}
+use Rattle.std.specs.Prelude.{All, Option, Some}
 use Rattle.std.proofs.lemmas.Int.{ints}
 use Rattle.std.proofs.lemmas.List.{length-map, get_or-map}
 use Rattle.std.proofs.lemmas.List.Elements.{All-head, All-tail}
@@ -56,10 +56,10 @@ abbrev no_fold : Fold
 no_fold = record { a = 0; b = 0; c = 0; d = 0; alpha = pos 0; beta = pos 0 }
 
 -- the solver is not infeasible on folds that are positive at some heights
-lifted_not_infeasible : (n width : ℕ) (rs : List Fold) (ms : List (ℕ × ℤ)) → AreFoldsOver n rs → AreLifted n rs → IsInfeasible n (map (fold_row n) rs) (Some width) ms → ⊥
+pub lifted_not_infeasible : (n : ℕ) (width : Option ℕ) (rs : List Fold) (ms : List (ℕ × ℤ)) → AreFoldsOver n rs → AreLifted n rs → IsInfeasible n (map (fold_row n) rs) width ms → ⊥
 lifted_not_infeasible n width rs ms over (w, count, lifts) h =
-    clash (weighted ms value) (weighted_positive (length rows) value positive ms (infeasible-some n rows (Some width) ms (are_rows n rs) h) (infeasible-positive n rows (Some width) ms h))
-    (infeasible-cancels n rows (Some width) ms (are_rows n rs) h w count)
+    clash (weighted ms value) (weighted_positive (length rows) value positive ms (infeasible-some n rows width ms (are_rows n rs) h) (infeasible-positive n rows width ms h))
+    (infeasible-cancels n rows width ms (are_rows n rs) h w count)
   where
     rows : List (List ℤ)
     rows = map (fold_row n) rs
@@ -84,4 +84,4 @@ module _ (g : Shape) (s : IsShape g) (key : List ℕ) (rs : List Fold) (faces : 
   lifted_not_refuted at_most lifted width (qs, ms, folds, k) =
       let e = head_folds_fixed g 0 key qs rs folds rows.folds in
       let P : List Fold → Type 0 = λ ts. IsInfeasible (length g.points) (map (fold_row (length g.points)) ts) (Some width) ms in
-      lifted_not_infeasible (length g.points) width rs ms (folds_over g s key rs faces rows at_most) lifted (subst P e k)
+      lifted_not_infeasible (length g.points) (Some width) rs ms (folds_over g s key rs faces rows at_most) lifted (subst P e k)

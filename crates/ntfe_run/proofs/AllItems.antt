@@ -1,5 +1,6 @@
 -- Every fine triangulation of a two-face is an item: those with lesser words are finitely many, and stand in a list.
 --     all_from      all words that lead on from where some triples stand
+--     steps_all      all triangulations, where the boundary steps are known
 --     item_exists      the number of a triangulation
 use Rattle.std.proofs.Common.{◌≡◌, ℕ, zero, suc, ◌+◌, ◌*◌, ◌<◌, ◌⊎◌, inl, inr, ⊎_elim, Bool, true, refl, sym, ap, subst, arith, List, [], ◌∷◌, ◌++◌, map, length, length-append}
 use Rattle.std.specs.Prelude.{Contains, AllPairs, filter, flat_map}
@@ -11,7 +12,7 @@ use Rattle.std.proofs.lemmas.List.Elements.{All-contains, All-nil}
 use Rattle.std.proofs.lemmas.List.Kept.{AllPairs-cons}
 use Rattle.ntfe_model.proofs.Lists.{Contains-map}
 use Rattle.ntfe_model.specs.Lists.{IsListing, IsBelow}
-use Rattle.ntfe_model.specs.Charts.{Patch, spot_numbers, IsOf, IsUnit, IsStep, AreApart}
+use Rattle.ntfe_model.specs.Charts.{Patch, spot_numbers, IsOf, IsUnit, IsStep, AreSteps, AreApart}
 use Rattle.ntfe_model.specs.Words.{written, IsTriangulation, IsItem}
 use Rattle.ntfe_model.specs.declared.triangle.Triangle.{Triangle}
 use Rattle.ntfe_model.specs.declared.triangulation.Triangulation.{Triangulation}
@@ -35,7 +36,7 @@ from_map {X} {Y} f (z ∷ zs) y c = by (Contains-cases y (f z) (map f zs) c) (fr
     by (inl e) rest = (z, Contains-here z z zs refl, e)
     by (inr d) rest = (let r = rest d in (r.0, Contains-there r.0 z zs r.1, r.2))
 
-listing_map : {X Y : Type 0} (R : X → X → Type 0) (S : Y → Y → Type 0) (P : X → Type 0) (f : X → Y) → ((x z : X) → R x z → S (f x) (f z)) → (xs : List X) → IsListing R P xs
+pub listing_map : {X Y : Type 0} (R : X → X → Type 0) (S : Y → Y → Type 0) (P : X → Type 0) (f : X → Y) → ((x z : X) → R x z → S (f x) (f z)) → (xs : List X) → IsListing R P xs
     → IsListing S (λ y. (x : X) × P x × (y ≡ f x)) (map f xs)
 listing_map {X} {Y} R S P f keeps xs l = record {
   ordered = ordered xs l.ordered;
@@ -50,7 +51,7 @@ listing_map {X} {Y} R S P f keeps xs l = record {
         (All-from_contains (S (f z)) (map f zs) (λ y c. (let r = from_map f zs y c in subst (S (f z)) (sym r.2) (keeps z r.0 (All-contains (R z) zs r.0 (AllPairs-head R z zs o) r.1)))))
         (ordered zs (AllPairs-tail R z zs o))
 
-abbrev Below : Triangulation → Triangulation → Type 0
+abbrev pub Below : Triangulation → Triangulation → Type 0
 Below y z = IsBelow y.word z.word
 
 -- with one number and its triple in front
@@ -59,7 +60,7 @@ extended c t v = record { word = c ∷ v.word; triangles = t ∷ v.triangles }
 
 module _ (h : Patch) (apart : AreApart h) (rising : AllPairs (λ j k. j < k) (spot_numbers h)) (a b c : ℕ) (known : IsUnit h a b c) where
   -- all words that lead on from here to the end, with their triples
-  abbrev AreListed : List Triangle → List (ℕ × ℕ) → Type 0
+  abbrev pub AreListed : List Triangle → List (ℕ × ℕ) → Type 0
   AreListed ts steps = (xs : List Triangulation) × IsListing Below (λ y. Completes h ts steps y.word y.triangles) xs
 
   numbers_listing : IsListing (λ j k. j < k) (IsOf h) (spot_numbers h)
@@ -157,16 +158,16 @@ module _ (h : Patch) (apart : AreApart h) (rising : AllPairs (λ j k. j < k) (sp
   abbrev is_lesser : Triangulation → Triangulation → Bool
   is_lesser x y = is_lt (slice_cmp nat_cmp y.word x.word)
 
-  -- all triangulations
-  all_listed : (x : Triangulation) (is : IsTriangulation h x) → AreListed [] is.steps
-  all_listed x is =
-      all_from (suc most) [] is.steps (record { unit = All-nil (λ t. IsUnit h t.a t.b t.c); compatible = λ i j d k m. absurd (omega arith) })
-      (All-from_contains (λ e. IsOf h e.0 × IsOf h e.1) is.steps (λ e k. (let p = (All-contains (λ d. IsStep h d.0 d.1) is.steps e is.boundary.sound k).points in (p.0, p.1))))
+  -- all triangulations, where the boundary steps are known
+  pub steps_all : (steps : List (ℕ × ℕ)) → AreSteps h steps → AreListed [] steps
+  steps_all steps boundary =
+      all_from (suc most) [] steps (record { unit = All-nil (λ t. IsUnit h t.a t.b t.c); compatible = λ i j d k m. absurd (omega arith) })
+      (All-from_contains (λ e. IsOf h e.0 × IsOf h e.1) steps (λ e k. (let p = (All-contains (λ d. IsStep h d.0 d.1) steps e boundary.sound k).points in (p.0, p.1))))
       (omega arith)
 
   pub item_exists : (x : Triangulation) → IsTriangulation h x → (n : ℕ) × IsItem h n x
   item_exists x is =
-      let all = all_listed x is in (
+      let all = steps_all is.steps is.boundary in (
         length (filter (is_lesser x) all.0),
         record {
           is = is;

@@ -14,12 +14,12 @@ use Rattle.io_edge.specs.Reading.{ReadsAll, ReadsPast}
 use Rattle.ntfe_model.specs.RunText.{Form}
 use Rattle.ntfe_run.specs.Inputs.{IsRefusalOf}
 use Rattle.ntfe_run.specs.Earlier.{IsBegunRefusal}
-use Rattle.ntfe_run.specs.Rooms.{Room, IsRead, IsReadInput, IsAnswer, IsAnswered, HasCause, HasText}
+use Rattle.ntfe_run.specs.Rooms.{Room, IsRead, IsReadInput, IsAnswer, IsAnswered}
 use Rattle.ntfe_run.specs.Commands.{faces_room}
 use Rattle.ntfe_run.specs.Statuses.{status_of_lines, IsReadStop, IsByteStop}
 use Rattle.ntfe_run.specs.Messages.{TellsMessage}
 use Rattle.ntfe_run.specs.declared.status.Refusal.{Refusal}
-use Rattle.ntfe_run.specs.declared.status.Refusal.TheVariants.{Size, NoOutput, Text, Pair, Points, Earlier, Unready}
+use Rattle.ntfe_run.specs.declared.status.Refusal.TheVariants.{Size, NoOutput, Text, Pair, Points, Earlier}
 use Rattle.ntfe_run.specs.declared.status.Status.{Status}
 use Rattle.ntfe_run.specs.declared.status.Status.TheVariants.{Done, Usage, Refused, Overflow, Limit, Memory, ReadFault, WriteFault}
 
@@ -54,7 +54,6 @@ module _ (r : Room) (most : ℕ) (limited : r.limit ≡ Some most) (e : Edges) (
   read_stopped (Refused (Pair fault)) h = record { cause = refused (Pair fault) h; text = kept }
   read_stopped (Refused (Points fault)) h = record { cause = refused (Points fault) h; text = kept }
   read_stopped (Refused (Earlier fault)) h = record { cause = refused (Earlier fault) h; text = kept }
-  read_stopped (Refused (Unready stage)) h = record { cause = refused (Unready stage) h; text = kept }
   read_stopped Memory h = record { cause = tt; text = inl kept }
   read_stopped ReadFault h = record { cause = h; text = kept }
   read_stopped Done h = absurd h
@@ -71,7 +70,6 @@ bytes_stopped most Refuses left faults (Refused (Text fault)) h = absurd h.2
 bytes_stopped most Refuses left faults (Refused (Pair fault)) h = absurd h.2
 bytes_stopped most Refuses left faults (Refused (Points fault)) h = absurd h.2
 bytes_stopped most Refuses left faults (Refused (Earlier fault)) h = absurd h.2
-bytes_stopped most Refuses left faults (Refused (Unready stage)) h = absurd h.2
 bytes_stopped most Refuses left faults Memory h = tt
 bytes_stopped most Refuses left faults ReadFault h = h
 bytes_stopped most Refuses left faults Done h = absurd h
@@ -89,7 +87,6 @@ module _ (most : ℕ) (left : Change (Option (List ℕ))) (faults : Change ℕ) 
   pair_refused (Size limit) h = absurd h
   pair_refused NoOutput h = absurd h
   pair_refused (Earlier fault) h = absurd h
-  pair_refused (Unready stage) h = absurd h
 
   pub begun_refused : (form : Form) (refusal : Refusal) → IsBegunRefusal form bytes refusal → IsReadStop most (IsBegunRefusal form) left faults (Refused refusal)
   begun_refused form NoOutput h = (bytes, read, h)
@@ -98,7 +95,6 @@ module _ (most : ℕ) (left : Change (Option (List ℕ))) (faults : Change ℕ) 
   begun_refused form (Points fault) h = (bytes, read, h)
   begun_refused form (Earlier fault) h = (bytes, read, h)
   begun_refused form (Size limit) h = absurd h.holds
-  begun_refused form (Unready stage) h = absurd h.holds
 
 -- a line that was written to its end, or to a fault of the sink, tells the message
 pub told : (a b : Option (List ℕ)) (f h : ℕ) (r : Result (Unit {0}) LineFault) (text : List ℕ) → IfErr r (λ e. e ≡ line.Write) → WritesText a b f h r text

@@ -1,15 +1,14 @@
 -- The bytes of an input of `resume` are those of one input only, and are not refused.
-use Rattle.std.proofs.Common.{◌≡◌, ◌≢◌, ◌∙◌, inl, inr, refl, sym, ap, subst, arith, ℕ, ◌+◌, ◌<◌, ◌≤◌, List, [], ◌∷◌, ◌++◌, length, Some, None, Ok}
-use Rattle.std.specs.Prelude.{Option, All}
+use Rattle.std.proofs.Common.{◌≡◌, ◌≢◌, ◌∙◌, inl, inr, refl, sym, ap, subst, arith, ℕ, List, [], ◌∷◌, ◌++◌, length, Ok}
+use Rattle.std.specs.Prelude.{All}
 use Rattle.std.proofs.lemmas.List.{length-append, append_cancel_left}
-use Rattle.std.proofs.lemmas.List.Elements.{All-nil, All-head, All-tail}
-use Rattle.ntfe_model.specs.Shapes.{Shape, IsShape}
-use Rattle.ntfe_model.specs.Keys.{IsStart, item_limit}
+use Rattle.std.proofs.lemmas.List.Elements.{All-head, All-tail}
+use Rattle.ntfe_model.specs.Shapes.{Shape}
 use Rattle.ntfe_model.specs.PairText.{lines}
 use Rattle.ntfe_model.specs.RunText.{Form, Kept}
 use Rattle.ntfe_model.specs.Earlier.{IsKeptOf}
 use Rattle.pair_text.specs.Output.{IsOutputLine, IsSplitAtOutput, IsCutAt, whole}
-use Rattle.class_text.specs.Earlier.{HasCause, kept_of}
+use Rattle.class_text.specs.Earlier.{HasCause}
 use Rattle.class_text.specs.declared.earlier.Earlier as read
 use Rattle.class_text.specs.declared.earlier_fault.EarlierFault.{EarlierFault}
 use Rattle.class_text.specs.declared.earlier_fault.EarlierFault.TheVariants as earlier
@@ -17,7 +16,7 @@ use Rattle.class_text.proofs.OneAnswer.{only_kept, exact_fault}
 use Rattle.ntfe_run.specs.Inputs.{IsInputOf}
 use Rattle.ntfe_run.specs.Earlier.{Begun, HoldBoth, layout, IsBegunInput, IsBegunRefusal}
 use Rattle.ntfe_run.specs.declared.status.Refusal.{Refusal}
-use Rattle.ntfe_run.specs.declared.status.Refusal.TheVariants.{Size, NoOutput, Text, Pair, Points, Earlier, Unready}
+use Rattle.ntfe_run.specs.declared.status.Refusal.TheVariants.{Size, NoOutput, Text, Pair, Points, Earlier}
 use Rattle.ntfe_run.proofs.InputsFixed.{input_fixed, not_refused}
 
 -- ---- the line whose only field is `output`
@@ -104,4 +103,3 @@ module _ (form : Form) (bytes : List ℕ) where
     begun_not_refused (Pair fault) r = no_pair (Pair fault) r
     begun_not_refused (Points fault) r = no_pair (Points fault) r
     begun_not_refused (Size limit) r = no_pair (Size limit) r
-    begun_not_refused (Unready stage) r = no_pair (Unready stage) r

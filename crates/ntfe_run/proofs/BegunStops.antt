@@ -3,7 +3,6 @@ use Rattle.std.proofs.Common.{◌≡◌, inl, inr, arith, ap, ℕ, ◌+◌, ◌�
 use Rattle.std.proofs.lemmas.List.{length-append}
 use Rattle.ntfe_model.specs.Shapes.{Shape}
 use Rattle.ntfe_model.specs.RunText.{Form}
-use Rattle.ntfe_model.specs.Earlier.{Layout}
 use Rattle.ntfe_words.specs.declared.command.Options.{Options}
 use Rattle.pair_text.specs.Output.{IsSplitAtOutput, IsCutAt}
 use Rattle.class_text.specs.Forms.{layout_of}
@@ -11,11 +10,11 @@ use Rattle.class_text.specs.declared.form.TextForm.{TextForm}
 use Rattle.steal_workers.specs.Forms.{IsFormOf}
 use Rattle.ntfe_run.specs.Inputs.{IsInputOf, IsRefusalOf, IsStopOf}
 use Rattle.ntfe_run.specs.Commands.{form_of_options}
-use Rattle.ntfe_run.specs.Earlier.{layout, HoldBoth, IsBegunRefusal, IsBegunStop, IsEarlierStop}
+use Rattle.ntfe_run.specs.Earlier.{layout, IsBegunRefusal, IsBegunStop, IsEarlierStop}
 use Rattle.ntfe_run.specs.declared.inputs.Stop.{Stop}
 use Rattle.ntfe_run.specs.declared.inputs.Stop.TheVariants.{Refused, Memory}
 use Rattle.ntfe_run.specs.declared.status.Refusal.{Refusal}
-use Rattle.ntfe_run.specs.declared.status.Refusal.TheVariants.{Size, NoOutput, Text, Pair, Points, Earlier, Unready}
+use Rattle.ntfe_run.specs.declared.status.Refusal.TheVariants.{Size, NoOutput, Text, Pair, Points, Earlier}
 
 -- the form of the options has their layout
 pub same_layout : (o : Options) (g : Shape) (f : TextForm) → IsFormOf g f → f.push ≡ o.push → f.stars ≡ o.stars → layout_of f ≡ layout (form_of_options o) g
@@ -42,7 +41,6 @@ module _ (bytes before behind : List ℕ) (s : IsSplitAtOutput bytes before behi
     pair_refusal (Size limit) h = absurd h
     pair_refusal NoOutput h = absurd h
     pair_refusal (Earlier fault) h = absurd h
-    pair_refusal (Unready stage) h = absurd h
 
     pub pair_stop : (stop : Stop) → IsStopOf before stop → IsBegunStop form bytes stop
     pair_stop (Refused refusal) h = pair_refusal refusal h
@@ -55,5 +53,4 @@ module _ (bytes before behind : List ℕ) (s : IsSplitAtOutput bytes before behi
     earlier_stop g (Refused (Points fault)) is h = absurd h
     earlier_stop g (Refused (Size limit)) is h = absurd h
     earlier_stop g (Refused NoOutput) is h = absurd h
-    earlier_stop g (Refused (Unready stage)) is h = absurd h
     earlier_stop g Memory is h = tt

@@ -1,8 +1,7 @@
 -- Where a command can answer what it is given and no count of faults rose, all was done or memory ran out.
-use Rattle.std.proofs.Common.{◌≡◌, ◌∙◌, inl, inr, refl, sym, ap, subst, ℕ, ◌≤◌, ℤ, List, [], length, Some, None}
+use Rattle.std.proofs.Common.{◌≡◌, ◌∙◌, inl, inr, refl, sym, ap, subst, ℕ, ℤ, List, Some, None}
 use Rattle.std.specs.Prelude.{Option}
 use Rattle.io_edge.specs.Reading.{ReadsAll, ReadsPast}
-use Rattle.ntfe_run.specs.Inputs.{IsRefusalOf}
 use Rattle.ntfe_words.specs.CommandLine.{Setting, Reading, number, AreOptions, IsDemo, IsMeaningOf, IsMeaning}
 use Rattle.ntfe_words.specs.declared.command.Command.{Command}
 use Rattle.ntfe_words.specs.declared.command.Command.TheVariants as command
@@ -10,11 +9,11 @@ use Rattle.ntfe_words.specs.declared.command.Options.{Options}
 use Rattle.ntfe_run.specs.Edges.{Edges}
 use Rattle.ntfe_run.specs.Rooms.{Room, IsRead, IsReadInput, IsReadRefusal, IsGiven, HasCause}
 use Rattle.ntfe_run.specs.Commands.{room_of, form_of_options}
-use Rattle.ntfe_run.specs.Answers.{IsUnbuilt, HasAnswer, HasAnswerCause, IsComplete}
+use Rattle.ntfe_run.specs.Answers.{HasAnswer, HasAnswerCause, IsComplete}
 use Rattle.ntfe_run.proofs.BegunFixed.{begun_fixed, begun_not_refused}
-use Rattle.ntfe_run.proofs.InputsFixed.{read_fixed, not_past, input_fixed, not_refused}
+use Rattle.ntfe_run.proofs.InputsFixed.{read_fixed, not_past, shape_fixed, input_fixed, not_refused}
 use Rattle.ntfe_run.specs.declared.status.Refusal.{Refusal}
-use Rattle.ntfe_run.specs.declared.status.Refusal.TheVariants.{Size, NoOutput, Text, Pair, Points, Earlier, Unready}
+use Rattle.ntfe_run.specs.declared.status.Refusal.TheVariants.{Size, NoOutput, Text, Pair, Points, Earlier}
 use Rattle.ntfe_run.specs.declared.status.Status.{Status}
 use Rattle.ntfe_run.specs.declared.status.Status.TheVariants.{Done, Usage, Refused, Overflow, Limit, Memory, ReadFault, WriteFault}
 
@@ -64,13 +63,13 @@ pub holds_once : (c : Command) (bytes : List ℕ) (i j : (room_of c).Input) → 
 holds_once (command.Classes o) bytes i j h k = input_fixed bytes i j h k
 holds_once (command.Resume o) bytes i j h k = begun_fixed (form_of_options o) bytes i j h k
 holds_once command.Faces bytes i j h k = input_fixed bytes i j h k
-holds_once (command.Demo n workers width) bytes i j h k = absurd h
+holds_once (command.Demo n workers width) bytes i j h k = shape_fixed i j (h.pair ∙ sym k.pair) h.shape k.shape
 
 pub not_refused_too : (c : Command) (bytes : List ℕ) (i : (room_of c).Input) (refusal : Refusal) → (room_of c).Holds bytes i → (room_of c).Refuses bytes refusal → ⊥
 not_refused_too (command.Classes o) bytes i refusal h k = not_refused bytes i refusal h k
 not_refused_too (command.Resume o) bytes i refusal h k = begun_not_refused (form_of_options o) bytes i h refusal k
 not_refused_too command.Faces bytes i refusal h k = not_refused bytes i refusal h k
-not_refused_too (command.Demo n workers width) bytes i refusal h k = h
+not_refused_too (command.Demo n workers width) bytes i refusal h k = k
 
 module _ (e : Edges) where
   -- what was read is what is given
@@ -97,7 +96,6 @@ module _ (words : List (List ℕ)) (e : Edges) (a : HasAnswer words e) where
   no_refusal (Pair fault) r = no_refusal_of (Pair fault) r
   no_refusal (Points fault) r = no_refusal_of (Points fault) r
   no_refusal (Earlier fault) r = no_refusal_of (Earlier fault) r
-  no_refusal (Unready stage) r = no_refusal_of (Unready stage) r
 
   own_input : (i : own.Input) → IsReadInput own e i → i ≡ a.can.input
   own_input i r = holds_once a.asked a.can.bytes i a.can.input (from_read e own.limit a.can.bytes (λ bytes. own.Holds bytes i) a.can.given r) a.can.holds
@@ -111,9 +109,6 @@ module _ (words : List (List ℕ)) (e : Edges) (a : HasAnswer words e) where
   not_far : (face : ℕ) → HasCause own e (Limit face) → ⊥
   not_far face (i, key, read, far) = a.can.reach.near face key (subst (λ (j : own.Input). own.IsFar j face key) (own_input i read) far)
 
-  not_unbuilt : IsUnbuilt words → ⊥
-  not_unbuilt (c, m, n) = n (subst (λ (d : Command). (room_of d).IsBuilt) (meaning_fixed words a.asked c a.means m) a.built)
-
 pub complete : (words : List (List ℕ)) (e : Edges) (status : Status) → HasAnswerCause words e status → IsComplete words e status
 complete words e Done c a n m = inl refl
 complete words e Memory c a n m = inr refl
@@ -122,10 +117,4 @@ complete words e ReadFault (c, means, k) a n m = absurd (n k)
 complete words e WriteFault (c, means, k) a n m = absurd (m k)
 complete words e (Overflow choice step number) (c, means, k) a n m = absurd (not_wide words e a choice step number (own_cause words e a c (Overflow choice step number) means k))
 complete words e (Limit face) (c, means, k) a n m = absurd (not_far words e a face (own_cause words e a c (Limit face) means k))
-complete words e (Refused (Size limit)) (c, means, k) a n m = absurd (no_refusal words e a (Size limit) (own_cause words e a c (Refused (Size limit)) means k))
-complete words e (Refused NoOutput) (c, means, k) a n m = absurd (no_refusal words e a NoOutput (own_cause words e a c (Refused NoOutput) means k))
-complete words e (Refused (Text fault)) (c, means, k) a n m = absurd (no_refusal words e a (Text fault) (own_cause words e a c (Refused (Text fault)) means k))
-complete words e (Refused (Pair fault)) (c, means, k) a n m = absurd (no_refusal words e a (Pair fault) (own_cause words e a c (Refused (Pair fault)) means k))
-complete words e (Refused (Points fault)) (c, means, k) a n m = absurd (no_refusal words e a (Points fault) (own_cause words e a c (Refused (Points fault)) means k))
-complete words e (Refused (Earlier fault)) (c, means, k) a n m = absurd (no_refusal words e a (Earlier fault) (own_cause words e a c (Refused (Earlier fault)) means k))
-complete words e (Refused (Unready stage)) c a n m = absurd (not_unbuilt words e a c.1)
+complete words e (Refused refusal) (c, means, k) a n m = absurd (no_refusal words e a refusal (own_cause words e a c (Refused refusal) means k))

@@ -1,27 +1,28 @@
 -- From the text of a run to the headline: extendable choices are those that fine regular star triangulations induce.
-use Rattle.std.proofs.Common.{◌≡◌, ◌∙◌, refl, sym, ap, subst, inl, inr, Bool, true, false, cond, ℕ, ℤ, List, [], length, Some, None}
+use Rattle.std.proofs.Common.{◌≡◌, ◌∙◌, refl, sym, ap, subst, inl, inr, Bool, true, false, cond, ℕ, List, [], length, Some, None}
 use Rattle.std.specs.Prelude.{Option}
 use Rattle.ntfe_model.specs.Lists.{IsBelow}
 use Rattle.ntfe_model.specs.Shapes.{Shape, IsShape}
 use Rattle.ntfe_model.specs.Choices.{IsChoice, Extends}
 use Rattle.ntfe_model.specs.Keys.{IsAfter}
 use Rattle.ntfe_model.specs.declared.nogood.Push.{Push}
-use Rattle.ntfe_model.specs.Stars.{IsStar, IsMember, IsFrst, Induces, order_of}
+use Rattle.ntfe_model.specs.Stars.{IsStar, IsMember, order_of}
 use Rattle.ntfe_model.specs.RunText.{Form, Block, Kept, IsStarOf, IsBlockOf, IsRunText, nothing_kept}
 use Rattle.ntfe_model.proofs.Listings.{listing_same, listing_unique}
 use Rattle.ntfe_model.proofs.Orders.{below_once}
-use Rattle.ntfe_words.specs.CommandLine.{IsMeaning}
 use Rattle.ntfe_words.specs.declared.command.Command.{Command}
 use Rattle.ntfe_words.specs.declared.command.Command.TheVariants as command
 use Rattle.ntfe_run.specs.Edges.{Edges}
 use Rattle.ntfe_run.specs.Rooms.{IsRead, TakesAll}
 use Rattle.ntfe_run.specs.Commands.{room_of, form_of_options}
 use Rattle.ntfe_run.specs.Answers.{HasRunText, HasHeadline}
+use Rattle.steal_workers.specs.Listings.{IsUpTo}
+use Rattle.ntfe_run.specs.Demo.{IsDemoText, IsDemoHeadline, demo_form}
 use Rattle.ntfe_run.specs.Headline.{IsInducingStar, IsInducedBlock, IsHeadlineText}
 use Rattle.ntfe_run.specs.declared.status.Status.{Status}
 use Rattle.ntfe_run.specs.declared.status.Status.TheVariants.{Done, Usage, Refused, Overflow, Limit, Memory, ReadFault, WriteFault}
 use Rattle.ntfe_run.proofs.Completeness.{meaning_fixed}
-use Rattle.ntfe_run.proofs.HeightsExtend.{heights_extend}
+use Rattle.steal_workers.proofs.HeightsExtend.{heights_extend}
 use Rattle.star_builder.proofs.FineStars.{extended_star}
 use Rattle.star_builder.proofs.InducedHeights.{induced_extendable}
 use Rattle.star_builder.proofs.StarListing.{star_exists, push_order}
@@ -80,6 +81,24 @@ module _ (g : Shape) (s : IsShape g) (form : Form) where
     is = h.is;
   }
 
+-- what `demo` counts are the induced choices
+demo_headline : (number : ℕ) (g : Shape) → IsShape g → (text : List ℕ) → IsDemoText number g text → IsDemoHeadline number g text
+demo_headline number g s text (inl h) = inl record {
+  blocks = h.blocks;
+  are = listing_same (λ b c. IsBelow b.choice c.choice) (IsBlockOf g demo_form None) (IsInducedBlock g demo_form) h.blocks h.are (λ b k. (induced_block g s demo_form None b k).0) (λ b k. extendable_block g s demo_form None b (k, tt));
+  few = h.few;
+  is = h.is;
+}
+demo_headline number g s text (inr h) = inr record {
+  last = h.last;
+  blocks = h.blocks;
+  are = listing_same (λ b c. IsBelow b.choice c.choice) (λ b. IsBlockOf g demo_form None b × IsUpTo h.last b.choice) (λ b. IsInducedBlock g demo_form b × IsUpTo h.last b.choice) h.blocks h.are
+      (λ b k. ((induced_block g s demo_form None b k.0).0, k.1)) (λ b k. (extendable_block g s demo_form None b (k.0, tt), k.1));
+  last_is = h.last_is;
+  count = h.count;
+  is = h.is;
+}
+
 -- ---- of a run
 
 none_some : {X : Type 0} (n : ℕ) → (let o : Option ℕ = None in o ≡ Some n) → X
@@ -94,7 +113,7 @@ room_headline (command.Resume o) bytes i text holds (inl run) =
     λ none. headline_text i.geometry holds.holds.0.shape (form_of_options o) i.kept text (subst (λ (l : Option ℕ). IsRunText i.geometry (form_of_options o) i.kept l text) none run)
 room_headline (command.Resume o) bytes i text holds (inr due) = λ none. let e : None ≡ Some due.limit = sym none ∙ due.limited in none_some due.limit e
 room_headline command.Faces bytes g text holds is = tt
-room_headline (command.Demo n workers width) bytes i text holds is = tt
+room_headline (command.Demo number workers width) bytes g text holds is = demo_headline number g holds.shape text is
 
 -- what was read has some bytes
 pub some_read : (limit : Option ℕ) (e : Edges) (P : List ℕ → Type 0) → IsRead limit e P → (bytes : List ℕ) × P bytes

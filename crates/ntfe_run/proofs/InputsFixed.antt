@@ -21,7 +21,7 @@ use Rattle.lattice_points.specs.declared.fault.PointFault.{PointFault}
 use Rattle.lattice_points.specs.declared.fault.PointFault.TheVariants as point
 use Rattle.ntfe_run.specs.Inputs.{IsInputOf, IsRefusalOf}
 use Rattle.ntfe_run.specs.declared.status.Refusal.{Refusal}
-use Rattle.ntfe_run.specs.declared.status.Refusal.TheVariants.{Size, NoOutput, Text, Pair, Points, Earlier, Unready}
+use Rattle.ntfe_run.specs.declared.status.Refusal.TheVariants.{Size, NoOutput, Text, Pair, Points, Earlier}
 use Rattle.ntfe_model.proofs.Orders.{precedes_once, before_once}
 
 -- ---- what was read
@@ -46,7 +46,7 @@ faces_fixed : (p : VertexLists) (xs : List Point) (fs gs : List Face) → AreFac
 faces_fixed p xs fs gs h k =
     listing_unique (λ f g. IsBefore2 f.first f.second g.first g.second) (IsFaceOf p xs) (λ f g a b. before_once f.first f.second g.first g.second a b) fs gs h k
 
-shape_fixed : (g h : Shape) → g.pair ≡ h.pair → IsShape g → IsShape h → g ≡ h
+pub shape_fixed : (g h : Shape) → g.pair ≡ h.pair → IsShape g → IsShape h → g ≡ h
 shape_fixed g h e s t =
     let p : g.points ≡ h.points = points_fixed h.pair g.points h.points (subst (λ (q : VertexLists). ArePoints q g.points) e s.points) t.points in
     let f : g.faces ≡ h.faces =
@@ -109,4 +109,3 @@ not_refused bytes g (Points fault) i r =
 not_refused bytes g (Size limit) i r = r
 not_refused bytes g NoOutput i r = r
 not_refused bytes g (Earlier fault) i r = r
-not_refused bytes g (Unready stage) i r = r

@@ -1,8 +1,7 @@
 -- The last kept choice is a start: it has a number below the item limit for each two-face.
-use Rattle.std.proofs.Common.{◌≡◌, ◌∙◌, inl, inr, refl, sym, subst, true, false, Bool, cond, ℕ, zero, suc, ◌+◌, List, [], ◌∷◌, length, Some, None}
-use Rattle.std.specs.Prelude.{Option, All}
+use Rattle.std.proofs.Common.{inl, inr, sym, subst, true, false, Bool, cond, ℕ, zero, suc, ◌+◌, List, [], ◌∷◌, length, Some, None}
 use Rattle.ntfe_model.specs.Shapes.{Shape}
-use Rattle.ntfe_model.specs.Keys.{IsStart, item_limit}
+use Rattle.ntfe_model.specs.Keys.{IsStart}
 use Rattle.ntfe_model.specs.RunText.{Form, Kept}
 use Rattle.ntfe_model.specs.Earlier.{Place, Reading, Reads, IsAllowed, IsKeptOf, after_head, goes_on, ends_block, after_simplex}
 use Rattle.ntfe_model.specs.Earlier.Place.{class_or_end, heights_of, star_of, simplices_of, nothing}

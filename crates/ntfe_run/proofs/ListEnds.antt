@@ -1,5 +1,5 @@
 -- The text of a list, from its head to its end or to where it stops.
-use Rattle.std.proofs.Common.{◌≡◌, inl, inr, ⊎_elim, refl, sym, ap, ◌∙◌, subst, arith, ℕ, ◌+◌, ◌-◌, ◌<◌, ◌≤◌, ◌^◌, min, max, List, [], ◌++◌, length, flat_map, append-nil, append_assoc, Some, None, Result, Ok, Err}
+use Rattle.std.proofs.Common.{◌≡◌, inl, inr, refl, sym, ap, ◌∙◌, subst, arith, ℕ, ◌+◌, ◌≤◌, List, [], ◌++◌, length, flat_map, append-nil, Some, None, Result, Ok, Err}
 use Rattle.std.specs.Prelude.{Option, OnOk, OnErr}
 use Rattle.std.specs.Io.KnownBytes.{Appends}
 use Rattle.std.proofs.KnownBytes.{Appends-trans}
@@ -7,7 +7,7 @@ use Rattle.io_edge.specs.Causes.{AppendsPrefix, Rose}
 use Rattle.io_edge.specs.Lines.{WritesText}
 use Rattle.io_edge.specs.declared.line_fault.LineFault.{LineFault}
 use Rattle.io_edge.specs.declared.line_fault.LineFault.TheVariants as line
-use Rattle.io_edge.proofs.Pieces.{prefix_all, prefix_next}
+use Rattle.io_edge.proofs.Pieces.{prefix_next}
 use Rattle.io_edge.specs.Changes.{Change}
 use Rattle.ntfe_model.specs.Shapes.{Shape}
 use Rattle.ntfe_words.specs.declared.command.Options.{Options}
@@ -26,7 +26,7 @@ use Rattle.ntfe_run.specs.declared.status.Status.TheVariants.{Done, Usage, Refus
 pub rose_later : (e f g : ℕ) → e ≤ f → Rose f g → Rose e g
 rose_later e f g l r = grind (arith, l, r)
 
-none_within : (limit : Option ℕ) (kept : ℕ) → IsWithinLimit limit kept 0
+pub none_within : (limit : Option ℕ) (kept : ℕ) → IsWithinLimit limit kept 0
 none_within None kept = tt
 none_within (Some n) kept = omega arith
 

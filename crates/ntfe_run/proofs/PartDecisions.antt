@@ -15,7 +15,7 @@ use Rattle.fine_stream.proofs.Parts.{crossing_conflict, no_conflict_same, no_con
 use Rattle.star_builder.proofs.FacetPoints.{decide_equal}
 
 -- what is decided of each entry is decided of all
-decide_each : {A : Type 0} (P : A → Type 0) (xs : List A) → ((x : A) → Contains xs x → Decided (P x)) → Decided ((x : A) → Contains xs x → P x)
+pub decide_each : {A : Type 0} (P : A → Type 0) (xs : List A) → ((x : A) → Contains xs x → Decided (P x)) → Decided ((x : A) → Contains xs x → P x)
 decide_each P [] decide = inl (λ x c. Contains-none x c)
 decide_each {A} P (z ∷ zs) decide = by (decide z (Contains-here z z zs refl)) (decide_each P zs (λ x c. decide x (Contains-there x z zs c)))
   where

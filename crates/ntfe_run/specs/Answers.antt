@@ -6,21 +6,15 @@ use Rattle.io_edge.specs.Changes.{Change}
 use Rattle.ntfe_words.specs.CommandLine.{IsMeaning, HasMeaning}
 use Rattle.ntfe_words.specs.declared.command.Command.{Command}
 use Rattle.ntfe_run.specs.Edges.{Edges, IsUntouched}
-use Rattle.ntfe_run.specs.Rooms.{Room, HasCause, HasText, TakesAll, CanAnswer, most_turns}
+use Rattle.ntfe_run.specs.Rooms.{HasCause, HasText, TakesAll, CanAnswer, most_turns}
 use Rattle.ntfe_run.specs.Commands.{room_of}
-use Rattle.ntfe_run.specs.declared.status.Refusal.TheVariants.{Unready}
 use Rattle.ntfe_run.specs.declared.status.Status.{Status}
-use Rattle.ntfe_run.specs.declared.status.Status.TheVariants.{Done, Usage, Refused, Overflow, Limit, Memory, ReadFault, WriteFault}
-
--- the words mean a command that is not built
-abbrev pub IsUnbuilt : List (List ℕ) → Type 0
-IsUnbuilt words = (c : Command) × IsMeaning words c × ¬ ((room_of c).IsBuilt)
+use Rattle.ntfe_run.specs.declared.status.Status.TheVariants.{Done, Usage, Refused, Memory, ReadFault}
 
 -- when each status ends a run
 abbrev pub HasAnswerCause : List (List ℕ) → Edges → Status → Type 0
 HasAnswerCause words e Usage = (¬ (HasMeaning words)) × IsUntouched e
 HasAnswerCause words e Memory = ⊤
-HasAnswerCause words e (Refused (Unready stage)) = (stage ≡ 6) × IsUnbuilt words × IsUntouched e
 HasAnswerCause words e status = (c : Command) × IsMeaning words c × HasCause (room_of c) e status
 
 -- what the sink took in a run
@@ -36,11 +30,10 @@ abbrev pub HasHeadline : List (List ℕ) → Edges → Status → Type 0
 HasHeadline words e Done = (c : Command) → IsMeaning words c → TakesAll (room_of c) (room_of c).IsHeadline e
 HasHeadline words e status = ⊤
 
--- the words mean a command that is built, and that can answer what it is given
+-- the words mean a command that can answer what it is given
 pub record HasAnswer (words : List (List ℕ)) (e : Edges) : Type 0 where
   pub asked : Command
   pub means : IsMeaning words asked
-  pub built : (room_of asked).IsBuilt
   pub can : CanAnswer (room_of asked) e
 
 -- then all is done, unless a count of faults rose or memory ran out

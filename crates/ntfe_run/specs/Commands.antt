@@ -11,6 +11,7 @@ use Rattle.steal_workers.specs.Listings.{Listed, AreBlocksTo, IsWithinLimit}
 use Rattle.ntfe_run.specs.Inputs.{IsInputOf, IsRefusalOf}
 use Rattle.ntfe_run.specs.Earlier.{Begun, IsBegunInput, IsBegunRefusal}
 use Rattle.ntfe_run.specs.Headline.{IsHeadlineText}
+use Rattle.ntfe_run.specs.Demo.{IsDemoOf, IsDemoText, IsDemoHeadline, IsStoppedCount}
 use Rattle.ntfe_run.specs.Rooms.{Room}
 
 -- the greatest number of bytes that are read of a pair
@@ -58,7 +59,6 @@ IsListBegun l kept text = IsListText l kept text ⊎ IsBeginning l kept text
 -- `classes`: the text is that of a run, which lists exactly the extendable choices
 abbrev pub classes_room : Options → Room
 classes_room o = record {
-  IsBuilt = ⊤;
   limit = Some input_limit;
   Input = Shape;
   Holds = IsInputOf;
@@ -74,7 +74,6 @@ classes_room o = record {
 -- `resume`: the text goes on after what is kept of an earlier output
 abbrev pub resume_room : Options → Room
 resume_room o = record {
-  IsBuilt = ⊤;
   limit = Some begun_limit;
   Input = Begun;
   Holds = IsBegunInput (form_of_options o);
@@ -91,7 +90,6 @@ resume_room o = record {
 
 abbrev pub faces_room : Room
 faces_room = record {
-  IsBuilt = ⊤;
   limit = Some input_limit;
   Input = Shape;
   Holds = IsInputOf;
@@ -104,26 +102,25 @@ faces_room = record {
   IsHeadline = λ g text. ⊤;
 }
 
--- ---- what is not built
+-- ---- the classes of a product of two polygons
 
--- nothing is read, and nothing is written
-abbrev pub unbuilt_room : Room
-unbuilt_room = record {
-  IsBuilt = ⊥;
+-- `demo`: nothing is read, and the text tells of exactly the extendable choices, up to the limit
+abbrev pub demo_room : ℕ → ℕ → Room
+demo_room number width = record {
   limit = None;
-  Input = ⊥;
-  Holds = λ bytes i. ⊥;
+  Input = Shape;
+  Holds = λ bytes g. IsDemoOf number g;
   Refuses = λ bytes refusal. ⊥;
-  IsText = λ i text. ⊥;
-  IsBegun = λ i text. ⊥;
-  IsWide = λ i choice step number. ⊥;
-  IsFar = λ i face key. ⊥;
-  IsStopped = λ i bound text. ⊥;
-  IsHeadline = λ i text. ⊤;
+  IsText = IsDemoText number;
+  IsBegun = IsDemoText number;
+  IsWide = λ g choice step number. MayOverflow g None width choice step number;
+  IsFar = λ g face key. MayLimit g None width face key;
+  IsStopped = IsStoppedCount;
+  IsHeadline = IsDemoHeadline number;
 }
 
 abbrev pub room_of : Command → Room
 room_of (command.Classes o) = classes_room o
 room_of (command.Resume o) = resume_room o
 room_of command.Faces = faces_room
-room_of (command.Demo n workers width) = unbuilt_room
+room_of (command.Demo number workers width) = demo_room number width

@@ -12,7 +12,7 @@ use Rattle.ntfe_run.specs.Inputs.{IsInputOf, IsRefusalOf}
 use Rattle.ntfe_run.specs.declared.inputs.Stop.{Stop}
 use Rattle.ntfe_run.specs.declared.inputs.Stop.TheVariants.{Refused, Memory}
 use Rattle.ntfe_run.specs.declared.status.Refusal.{Refusal}
-use Rattle.ntfe_run.specs.declared.status.Refusal.TheVariants.{Size, NoOutput, Text, Pair, Points, Earlier, Unready}
+use Rattle.ntfe_run.specs.declared.status.Refusal.TheVariants.{NoOutput, Earlier}
 
 -- a pair with its points and two-faces, and what is kept of an earlier output
 pub record Begun : Type 0 where

@@ -10,7 +10,7 @@ use Rattle.reflexive_pair.specs.Causes.{HasFault}
 use Rattle.lattice_points.specs.Faults.{HasFewColumns, HasCause as HasPointCause}
 use Rattle.lattice_points.specs.declared.fault.PointFault.TheVariants as point
 use Rattle.ntfe_run.specs.declared.status.Refusal.{Refusal}
-use Rattle.ntfe_run.specs.declared.status.Refusal.TheVariants.{Size, NoOutput, Text, Pair, Points, Earlier, Unready}
+use Rattle.ntfe_run.specs.declared.status.Refusal.TheVariants.{Text, Pair, Points}
 use Rattle.ntfe_run.specs.declared.inputs.Stop.{Stop}
 use Rattle.ntfe_run.specs.declared.inputs.Stop.TheVariants.{Refused, Memory}
 

@@ -3,9 +3,11 @@ pub mod Rooms
 pub mod Commands
 pub mod Answers
 pub mod Headline
+pub mod Demo
 pub mod Inputs
 pub mod Earlier
 pub mod Codes
 pub mod Messages
 pub mod Parts
 pub mod Statuses
+pub mod Shown

@@ -14,7 +14,7 @@ use Rattle.lattice_points.specs.declared.fault.PointFault.TheVariants as point
 use Rattle.class_text.specs.declared.earlier_fault.EarlierFault.{EarlierFault}
 use Rattle.class_text.specs.declared.earlier_fault.EarlierFault.TheVariants as earlier
 use Rattle.ntfe_run.specs.declared.status.Refusal.{Refusal}
-use Rattle.ntfe_run.specs.declared.status.Refusal.TheVariants.{Size, NoOutput, Text, Pair, Points, Earlier, Unready}
+use Rattle.ntfe_run.specs.declared.status.Refusal.TheVariants.{Size, NoOutput, Text, Pair, Points, Earlier}
 use Rattle.ntfe_run.specs.declared.status.Status.{Status}
 use Rattle.ntfe_run.specs.declared.status.Status.TheVariants.{Done, Usage, Refused, Overflow, Limit, Memory, ReadFault, WriteFault}
 
@@ -69,7 +69,6 @@ refusal_message (Text fault) = text_message fault
 refusal_message (Pair fault) = pair_message fault
 refusal_message (Points fault) = point_message fault
 refusal_message (Earlier fault) = earlier_message fault
-refusal_message (Unready stage) = codes "not built: stage " ++ decimal stage
 
 -- the numbers, one space before each
 abbrev pub spaced_numbers : List ℕ → List ℕ

@@ -6,13 +6,11 @@ use Rattle.io_edge.specs.Changes.{Change}
 use Rattle.io_edge.specs.Reading.{ReadsAll, ReadsPast}
 use Rattle.ntfe_run.specs.Edges.{Edges, IsUntouched}
 use Rattle.ntfe_run.specs.declared.status.Refusal.{Refusal}
-use Rattle.ntfe_run.specs.declared.status.Refusal.TheVariants.{Size, Unready}
+use Rattle.ntfe_run.specs.declared.status.Refusal.TheVariants.{Size}
 use Rattle.ntfe_run.specs.declared.status.Status.{Status}
 use Rattle.ntfe_run.specs.declared.status.Status.TheVariants.{Done, Usage, Refused, Overflow, Limit, Memory, ReadFault, WriteFault}
 
 pub record Room : Type 1 where
-  -- whether it is built
-  pub IsBuilt : Type 0
   -- the greatest number of bytes that are read; where there is none, nothing is read
   pub limit : Option ℕ
   -- what the bytes are to hold, and why they are refused

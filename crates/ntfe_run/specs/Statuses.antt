@@ -1,5 +1,6 @@
 -- The statuses that the steps of a command come to.
-use Rattle.std.specs.Prelude.{◌≡◌, ℕ, List, Option, Result, Ok, Err, ⊤}
+use Rattle.std.specs.Prelude.{◌≡◌, ◌⊎◌, ℕ, List, Option, Result, Ok, Err, ⊤}
+use Rattle.std.specs.Io.KnownBytes.{Keeps}
 use Rattle.io_edge.specs.Causes.{Rose}
 use Rattle.io_edge.specs.Changes.{Change}
 use Rattle.io_edge.specs.Reading.{ReadsAll, ReadsPast}
@@ -15,13 +16,14 @@ use Rattle.steal_workers.specs.declared.served.Served.TheVariants as served
 use Rattle.class_text.specs.Earlier as earlier
 use Rattle.ntfe_run.specs.Earlier.{Begun, IsBegunInput}
 use Rattle.ntfe_run.specs.declared.commands.resume.Resumed.{Resumed}
-use Rattle.ntfe_run.specs.Commands.{input_limit, begun_limit, IsListText, IsListBegun}
-use Rattle.ntfe_run.specs.Inputs.{IsInputOf, IsRefusalOf}
-use Rattle.ntfe_run.specs.Rooms.{Takes, TakesPrefix}
+use Rattle.ntfe_run.specs.Commands.{input_limit, begun_limit, IsListText, IsListBegun, demo_room}
+use Rattle.ntfe_run.specs.Demo.{IsDemoText}
+use Rattle.ntfe_run.specs.Inputs.{IsInputOf}
+use Rattle.ntfe_run.specs.Rooms.{Takes, TakesPrefix, IsAnswer}
 use Rattle.ntfe_run.specs.declared.status.Refusal.{Refusal}
 use Rattle.ntfe_run.specs.declared.status.Refusal.TheVariants.{Size}
 use Rattle.ntfe_run.specs.declared.status.Status.{Status}
-use Rattle.ntfe_run.specs.declared.status.Status.TheVariants.{Done, Usage, Refused, Overflow, Limit, Memory, ReadFault, WriteFault}
+use Rattle.ntfe_run.specs.declared.status.Status.TheVariants.{Done, Refused, Overflow, Limit, Memory, ReadFault, WriteFault}
 
 -- ---- the reading of an input
 
@@ -97,3 +99,10 @@ abbrev pub WritesLast : Served → Change (Option (List ℕ)) → Change ℕ →
 WritesLast (served.End count last) taken faults status = WritesLine (end_line count) taken faults status
 WritesLast (served.Limit count last) taken faults status = WritesLine (limit_line count) taken faults status
 WritesLast s taken faults status = (status ≡ status_of_end s) × (taken.after ≡ taken.before) × (faults.after ≡ faults.before)
+
+-- ---- the classes of a product of two polygons
+
+-- how the counting ends, and what was taken of its lines: nothing before it has come to its end
+abbrev pub IsDemoEnd : ℕ → ℕ → Shape → Change (Option (List ℕ)) → Change ℕ → Status → Type 0
+IsDemoEnd number width g taken faults Memory = Keeps taken.before taken.after ⊎ TakesPrefix (IsDemoText number g) taken
+IsDemoEnd number width g taken faults status = IsAnswer (demo_room number width) g taken faults status

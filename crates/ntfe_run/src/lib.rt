@@ -2,6 +2,7 @@
 #![tactic(auto)]
 
 mod commands;
+mod demo_lines;
 mod inputs;
 mod laws;
 mod listing;
@@ -10,10 +11,15 @@ mod numbered;
 mod part;
 mod reading;
 mod status;
+mod text_laws;
 mod top;
 
 pub use laws::restriction_is_item;
 pub use status::{Refusal, Status};
+pub use text_laws::{
+    done_shows_each_class, resumed_text_is_whole, run_text_exists, stopped_texts_begin_whole_ones,
+    texts_show_each_choice,
+};
 pub use top::{run, run_alone};
 
 #[cfg(test)]

@@ -188,9 +188,6 @@ fn write_refusal_message<E: Sink>(refusal: &Refusal, err: &mut E) -> Result<(), 
         Refusal::Pair(fault) => write_pair_message(*fault, err),
         Refusal::Points(fault) => write_point_message(fault, err),
         Refusal::Earlier(fault) => write_earlier_message(*fault, err),
-        Refusal::Unready { stage } => {
-            write_parts(&[Text("not built: stage "), Number(u64::from(*stage))], err)
-        }
     }
 }
 
@@ -203,7 +200,7 @@ fn write_spaced<E: Sink>(number: u32, err: &mut E) -> Result<(), LineFault>
 }
 
 /// Writes numbers, one space before each.
-fn write_numbers<E: Sink>(numbers: &[u32], err: &mut E) -> Result<(), LineFault>
+pub fn write_numbers<E: Sink>(numbers: &[u32], err: &mut E) -> Result<(), LineFault>
     ensures text { WritesText (E.taken err.old) (E.taken err.new) (E.faults err.old) (E.faults err.new) result (spaced_numbers numbers.now) }
     ensures fault { IfErr result (λ e. e ≡ LineFault.Write) }
 {

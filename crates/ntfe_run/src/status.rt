@@ -25,8 +25,6 @@ pub enum Refusal {
     Points(PointFault),
     /// The earlier output does not go with the run.
     Earlier(EarlierFault),
-    /// The program does not answer this yet.
-    Unready { stage: u8 },
 }
 
 /// How a run ends.

@@ -4,10 +4,11 @@ ghost use Rattle.ntfe_run.specs.Answers.{HasAnswerCause, HasRunText, IsRun, HasF
 ghost use Rattle.ntfe_run.specs.Messages.{message_line, TellsMessage};
 
 use crate::commands::classes::list_classes;
+use crate::commands::demo::show_demo;
 use crate::commands::faces::list_faces;
 use crate::commands::resume::resume_classes;
 use crate::messages::write_message;
-use crate::status::{Refusal, Status};
+use crate::status::Status;
 use io_edge::{Gate, Sink, Source};
 use ntfe_words::{Command, WordFault, read_words};
 use std::alloc::Global;
@@ -45,7 +46,7 @@ fn answer<S: Source, K: Sink>(
         Command::Classes(options) => list_classes(alloc, &options, source, out),
         Command::Faces => list_faces(alloc, source, out),
         Command::Resume(options) => resume_classes(alloc, &options, source, out),
-        Command::Demo { .. } => Status::Refused(Refusal::Unready { stage: 6 }),
+        Command::Demo { number, width, .. } => show_demo(alloc, number, width, out),
     }
 }
 
@@ -81,11 +82,10 @@ pub fn run_alone<S: Source, K: Sink, E: Sink>(
 ///
 /// - `Done` (0): all of the answer was written. For `classes` without a limit these are the blocks of
 ///   exactly the choices that fine regular star triangulations of the pair induce, each once and in
-///   order; with a limit, the first of them.
+///   order; with a limit, the first of them. `demo` reads nothing, and writes its lines only then.
 /// - `Usage` (2): the words have no meaning. Nothing is read or written.
 /// - `Refused` (3): the input is refused, and nothing is written. The first refusal in this order is
-///   told: too many bytes, no pair text, no reflexive pair, too many points. A command that is not
-///   built is refused before anything is read.
+///   told: too many bytes, no pair text, no reflexive pair, too many points.
 /// - `Overflow` (4): the solver's numbers reach the width on the named choice. All blocks below it are
 ///   written, and no last line.
 /// - `Limit` (5): the named two-face has more items than are taken. All blocks below a key that comes

@@ -1,5 +1,5 @@
 -- A choice has one block, with its star where stars are written.
-use Rattle.std.proofs.Common.{◌≡◌, ◌∙◌, refl, sym, ap, arith, subst, Bool, false, true, ℕ, ℤ, List, [], length, Some, None, Result, Ok, Err, Bor}
+use Rattle.std.proofs.Common.{◌≡◌, ◌∙◌, refl, sym, ap, arith, subst, Bool, false, true, ℕ, ℤ, List, length, Some, None, Result, Err, Bor}
 use Rattle.std.specs.Prelude.{Option, option_copied}
 use Rattle.std.specs.Option.{option_map}
 use Rattle.io_edge.specs.Lines.{WritesText}
@@ -59,7 +59,7 @@ module _ (g : Shape) (form : Form) where
   with_star choice w (Some s) k = record { of = refl; lifted = refl; starred = k }
 
   -- heights have what is shown as their star
-  star_at : (w : List ℤ) → (star : Option (List (List ℕ))) × IsStarAt g form w star
+  pub star_at : (w : List ℤ) → (star : Option (List (List ℕ))) × IsStarAt g form w star
   star_at w = by form.stars refl
     where
       by : (b : Bool) → form.stars ≡ b → (star : Option (List (List ℕ))) × IsStarAt g form w star

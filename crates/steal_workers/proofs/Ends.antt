@@ -15,12 +15,13 @@ use Rattle.ntfe_model.specs.RunText.{Block, IsUnderLimit, block_text}
 use Rattle.choice_board.specs.Settling.{counted}
 use Rattle.choice_board.specs.declared.outcome.Outcome.{Outcome}
 use Rattle.choice_board.specs.declared.outcome.Outcome.TheVariants.{Class, Wide, Far}
+use Rattle.class_text.proofs.KeptBlocks.{last_of_more}
 use Rattle.steal_workers.specs.Listings.{Bytes, Listed, Progress, IsWithinLimit, IsSmallLimit, IsAtLimit, last_choice, at_start, HasWritten, HasServed, ComesNext, IsNextOutcome, NoneIsLeft, GoesOn, EndsAs, TakesAll, TakesDue, TakesBelow, TakesPart}
 use Rattle.steal_workers.specs.Blocks.{IsClassBlock, WritesBlock, MovesTo}
 use Rattle.steal_workers.specs.Ends.{end_of}
 use Rattle.steal_workers.specs.declared.served.Served.{Served}
 use Rattle.steal_workers.specs.declared.served.Served.TheVariants as served
-use Rattle.steal_workers.proofs.NextBlocks.{last_of_more, no_blocks, next_block, all_blocks, blocks_below}
+use Rattle.steal_workers.proofs.NextBlocks.{no_blocks, next_block, all_blocks, blocks_below}
 
 -- ---- counts and limits
 

@@ -9,3 +9,5 @@ pub mod HandedOut
 pub mod Probed
 pub mod SharedBoards
 pub mod FoundKeys
+pub mod HeightsExtend
+pub mod ExtendableBlocks

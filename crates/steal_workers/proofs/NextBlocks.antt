@@ -48,10 +48,6 @@ last_is start (b ∷ bs) = by (last_is (Some b.choice) bs)
     by (inl e) = inr (b, Contains-here b b bs refl, e)
     by (inr (c, h, e)) = inr (c, Contains-there c b bs h, e)
 
-pub last_of_more : (start : Option (List ℕ)) (bs : List Block) (b : Block) → last_choice start (bs ++ b ∷ []) ≡ Some b.choice
-last_of_more start [] b = refl
-last_of_more start (x ∷ bs) b = last_of_more (Some x.choice) bs b
-
 module _ (l : Listed) where
   Own : Block → Type 0
   Own = IsBlockOf l.geometry l.form l.start

@@ -1,5 +1,5 @@
 -- A list of classes: what is to be listed, how far it has come, and how it ends.
-use Rattle.std.specs.Prelude.{◌≡◌, ℕ, ◌+◌, ◌-◌, ◌^◌, ◌<◌, ◌≤◌, ◌⊎◌, min, max, List, [], ◌∷◌, length, flat_map, Option, Some, None, ⊤}
+use Rattle.std.specs.Prelude.{◌≡◌, ℕ, ◌+◌, ◌-◌, ◌^◌, ◌<◌, ◌≤◌, ◌⊎◌, min, max, List, length, flat_map, Option, Some, None, ⊤}
 use Rattle.std.specs.Io.KnownBytes.{Appends}
 use Rattle.io_edge.specs.Causes.{AppendsPrefix}
 use Rattle.io_edge.specs.Changes.{Change}
@@ -10,6 +10,7 @@ use Rattle.ntfe_model.specs.Keys.{IsAfter, IsClass, MayOverflow, MayLimit}
 use Rattle.ntfe_model.specs.RunText.{Form, Block, IsBlockOf, AreBlocks, IsUnderLimit, block_text}
 use Rattle.choice_board.specs.declared.outcome.Outcome.{Outcome}
 use Rattle.choice_board.specs.declared.outcome.Outcome.TheVariants as outcome
+pub use Rattle.class_text.specs.Earlier.{last_choice}
 use Rattle.steal_workers.specs.declared.served.Served.{Served}
 use Rattle.steal_workers.specs.declared.served.Served.TheVariants as served
 
@@ -43,11 +44,6 @@ AreBlocksTo l last bs = IsListing (λ b c. IsBelow b.choice c.choice) (λ b. IsB
 -- the blocks of exactly the extendable choices after the start that lie below a choice or key, in order
 abbrev pub AreBlocksBelow : Listed → List ℕ → List Block → Type 0
 AreBlocksBelow l bound bs = IsListing (λ b c. IsBelow b.choice c.choice) (λ b. IsBlockOf l.geometry l.form l.start b × IsBelow b.choice bound) bs
-
--- the choice of the last block, or the start where there is none
-abbrev pub last_choice : Option (List ℕ) → List Block → Option (List ℕ)
-last_choice start [] = start
-last_choice start (b ∷ bs) = last_choice (Some b.choice) bs
 
 -- no more blocks than the limit asks for, the kept ones counted too
 abbrev pub IsWithinLimit : Option ℕ → ℕ → ℕ → Type 0

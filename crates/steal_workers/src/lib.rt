@@ -5,6 +5,7 @@ mod alone;
 mod blocks;
 mod crew;
 mod found_keys;
+mod laws;
 mod listing;
 mod look;
 mod pool;
@@ -21,6 +22,7 @@ mod working;
 mod writer;
 
 pub use alone::list_alone;
+pub use laws::extendable_has_block;
 pub use listing::Listing;
 pub use pool::Pool;
 pub use probing::Prober;

@@ -60,3 +60,4 @@ pub mod Settling
 pub mod HeightsLine
 pub mod Stems
 pub mod Extending
+pub mod Ending

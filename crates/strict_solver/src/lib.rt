@@ -18,7 +18,7 @@ mod tableau;
 #[cfg(test)]
 mod tests;
 
-pub use laws::{goes_on, moving_is_short, run_is_short};
+pub use laws::{goes_on, moving_is_short, run_ends, run_is_short};
 pub use run::Solved;
 pub use stem::{Pushed, Stem};
 pub use tableau::Tableau;

@@ -137,6 +137,24 @@ fn an_earlier_output_of_another_order(rt: HostRuntime) -> Result<(), AllocError>
     Ok(())
 }
 
+/// What is told of the product of two triangles.
+const DEMO: &str = "\
+demo 1\n\
+vertices 9\n\
+dual 6\n\
+points 15\n\
+faces 15\n\
+classes 102 end\n\
+last 0 0 1 1 1 0 1 1 1 1 1 1 0 0 0\n";
+
+#[test]
+fn the_first_demo(rt: HostRuntime) -> Result<(), AllocError> {
+    let all = run_on(rt.alloc(), &["demo", "1"], "", 9999)?;
+    assert!(rt; all.code == 0);
+    assert!(rt; all.out.bytes() == DEMO.as_bytes());
+    Ok(())
+}
+
 #[test]
 fn no_earlier_output(rt: HostRuntime) -> Result<(), AllocError> {
     let refused = run_on(rt.alloc(), &["resume"], SIMPLEX, 9999)?;

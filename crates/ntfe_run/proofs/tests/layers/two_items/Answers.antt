@@ -1,4 +1,4 @@
-use Rattle.std.proofs.Common.{◌∙◌, refl, sym, subst, Some}
+use Rattle.std.proofs.Common.{◌∙◌, refl, sym, subst}
 use Rattle.std.specs.Prelude.{Option}
 use Rattle.ntfe_model.specs.Charts.{Patch}
 use Rattle.ntfe_model.specs.Words.{IsItem}

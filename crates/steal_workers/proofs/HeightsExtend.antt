@@ -1,5 +1,5 @@
 -- The heights of a choice extend it.
-use Rattle.std.proofs.Common.{◌≡◌, ℕ, ◌<◌, ◌≤◌, subst, arith, refl, ℤ, pos, ◌<ℤ◌, ◌≤ℤ◌, List, [], length, map, get_or, None}
+use Rattle.std.proofs.Common.{ℕ, ◌<◌, subst, arith, ℤ, pos, ◌<ℤ◌, ◌≤ℤ◌, List, [], length, map, get_or, None}
 use Rattle.std.specs.Prelude.{All}
 use Rattle.std.proofs.lemmas.Int.{ints}
 use Rattle.std.proofs.lemmas.List.{length-map, get_or-map}
@@ -23,7 +23,7 @@ use Rattle.strict_solver.proofs.Outcome.{are_rows}
 
 module _ (g : Shape) (s : IsShape g) (choice : List ℕ) (items : IsChoice g choice) (rs : List Fold) (folds : AreHeadFolds g 0 choice rs) where
   -- the folds are over the points, with small multipliers
-  over : All (IsFoldOver (length g.points)) rs
+  pub over : All (IsFoldOver (length g.points)) rs
   over = head_all g (IsFoldOver (length g.points)) choice rs folds one
     where
       one : (f : ℕ) → f < length choice → (x : Triangulation) → IsItem (patch_at g f) (get_or choice f 0) x → (r : Fold) → IsFoldOf (patch_at g f) x r → IsFoldOver (length g.points) r
@@ -33,7 +33,7 @@ module _ (g : Shape) (s : IsShape g) (choice : List ℕ) (items : IsChoice g cho
           let small = fold_factors g s f (get_or choice f 0) below x i r k in
           record { a = known.0; b = known.1; c = known.2; d = known.3; alpha = small.0; beta = small.1 }
 
-  feasible_extends : (w : List ℤ) → IsFeasible (length g.points) (map (fold_row (length g.points)) rs) None w → Extends g w choice
+  pub feasible_extends : (w : List ℤ) → IsFeasible (length g.points) (map (fold_row (length g.points)) rs) None w → Extends g w choice
   feasible_extends w h = folds_extend g s w h.scaling.counts.1 choice items.faces rs folds positive
     where
       positive : All (λ r. pos 0 <ℤ fold_value w r) rs
