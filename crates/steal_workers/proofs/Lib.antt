@@ -9,3 +9,4 @@ pub mod HandedOut
 pub mod Probed
 pub mod HeightsExtend
 pub mod ExtendableBlocks
+pub mod LaterStarts
