@@ -5,7 +5,6 @@
 --     extendable_block      the block of an extendable choice
 use Rattle.std.proofs.Common.{◌≡◌, ℕ, suc, ◌+◌, ◌<◌, ◌⊎◌, inl, inr, refl, subst, arith, ℤ, List, [], ◌∷◌, ◌++◌, length, map, get_or, None}
 use Rattle.std.specs.Prelude.{Option}
-use Rattle.std.proofs.lemmas.Option.{slice_get_within, get_or_from_slice_get}
 use Rattle.ntfe_model.specs.Shapes.{Shape, IsShape}
 use Rattle.ntfe_model.specs.Charts.{patch_at}
 use Rattle.ntfe_model.specs.Words.{HasItemAt}
@@ -15,13 +14,12 @@ use Rattle.ntfe_model.specs.Keys.{AreHeadFolds, AreHeightsOf, IsAfter}
 use Rattle.ntfe_model.specs.RunText.{Form, Block, IsBlockOf}
 use Rattle.ntfe_model.specs.declared.nogood.Fold.{Fold}
 use Rattle.face_chart.proofs.FineSets.{folds_exist}
-use Rattle.strict_solver.specs.Starts.{IsFoldOver, AreFoldsOver}
 use Rattle.strict_solver.proofs.Ending.{comes_to_end}
 use Rattle.strict_solver.proofs.Outcome.{are_rows}
 use Rattle.node_probe.proofs.Extending.{extends_folds}
 use Rattle.node_probe.proofs.Lifted.{lifted_not_infeasible}
 use Rattle.steal_workers.proofs.ClassBlocks.{star_at, with_star}
-use Rattle.steal_workers.proofs.HeightsExtend.{over, feasible_extends}
+use Rattle.steal_workers.proofs.HeightsExtend.{choice_over, feasible_extends}
 
 -- the heights of the stated solver, which extend the choice
 abbrev pub HasHeights : Shape → List ℕ → Type 0
@@ -61,12 +59,9 @@ module _ (g : Shape) (s : IsShape g) where
       folds : AreHeadFolds g 0 choice rs
       folds = (choice_folds g choice items).1
 
-      all_over : AreFoldsOver n rs
-      all_over = record { each = λ j f e. subst (IsFoldOver n) (get_or_from_slice_get rs j f f e) (over g s choice items rs folds j f (slice_get_within rs j f e)) }
-
       by : ((w : List ℤ) × IsFeasible n (map (fold_row n) rs) None w) ⊎ ((ms : List (ℕ × ℤ)) × IsInfeasible n (map (fold_row n) rs) None ms) → HasHeights g choice ⊎ ((w : List ℤ) → Extends g w choice → ⊥)
       by (inl (w, h)) = inl (w, (rs, folds, h), feasible_extends g s choice items rs folds w h)
-      by (inr (ms, h)) = inr (λ w e. lifted_not_infeasible n None rs ms all_over (w, e.heights, extends_folds g s w e.heights choice items.faces rs folds e) h)
+      by (inr (ms, h)) = inr (λ w e. lifted_not_infeasible n None rs ms (choice_over g s choice items rs folds) (w, e.heights, extends_folds g s w e.heights choice items.faces rs folds e) h)
 
   pub extendable_heights : (choice : List ℕ) → IsExtendable g choice → HasHeights g choice
   extendable_heights choice e = by (choice_decided choice e.items)

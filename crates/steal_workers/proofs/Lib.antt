@@ -11,3 +11,4 @@ pub mod SharedBoards
 pub mod FoundKeys
 pub mod HeightsExtend
 pub mod ExtendableBlocks
+pub mod LaterStarts
