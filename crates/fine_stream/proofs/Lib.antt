@@ -3,6 +3,7 @@ pub mod Parts
 pub mod Bound
 pub mod Searches
 pub mod Finding
+pub mod Going
 pub mod Waiting
 pub mod Numbers
 pub mod Standing

@@ -165,12 +165,6 @@ module _ (h : Patch) (ts : List Triangle) (a b c : ℕ) (fs : List (ℕ × ℕ))
   next_none l n m (d ∷ v) (u ∷ vs) k p =
       ⊎_elim (λ q. m (d ∷ v) (u ∷ vs) k q) (λ q. n v vs (rest_with d v u vs (sym q.0) k) q.1) (below_cons c d l v p)
 
--- where the last word is empty, nothing waits, and no word comes after it
-pub empty_last : (h : Patch) (ts : List Triangle) (steps : List (ℕ × ℕ)) (us : List Triangle) → Completes h ts steps [] us → HasNone h ts steps (IsBelow [])
-empty_last h ts [] us k [] vs m p = below_empty [] p
-empty_last h ts [] us k (c ∷ v) vs m p = absurd m.closes
-empty_last h ts ((a, b) ∷ fs) us k v vs m p = absurd k.closes
-
 -- ---- all numbers in turn
 
 lower_taken : (ks : List ℕ) (i d : ℕ) → AllPairs (λ j k. j < k) ks → i < length ks → Contains ks d → d < get_or ks i 0 → Contains (take i ks) d

@@ -1,4 +1,5 @@
 pub mod Paths
+pub mod Kept
 pub mod Found
 pub mod Cursors
 pub mod Rows

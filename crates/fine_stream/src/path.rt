@@ -1,6 +1,7 @@
 //! A word as far as it has come.
-ghost use Rattle.std.specs.Prelude.{◌≡◌, ℕ, ◌<◌, ◌++◌, ◌∷◌, [], List, length, take, drop, IfOk, OnOk};
+ghost use Rattle.std.specs.Prelude.{◌≡◌, true, false, ℕ, ◌<◌, ◌≤◌, ◌++◌, ◌∷◌, [], List, length, take, drop, IfOk, OnOk};
 ghost use Rattle.ntfe_model.specs.Words.{written as as_written, after_side};
+ghost use Rattle.fine_stream.specs.Kept.{Keeps, waiting_after};
 
 use crate::fronts::add_after;
 use ntfe_model::Triangle;
@@ -13,6 +14,8 @@ pub struct Path {
     pub triangles: Vec<Triangle>,
     /// The lists of the waiting steps, one after the other. The last one waits now.
     pub steps: Vec<(u32, u32)>,
+    /// Where the lists after the first one begin.
+    pub starts: Vec<usize>,
     /// What waits between the two sides of a triangle.
     pub between: Vec<(u32, u32)>,
 }
@@ -38,14 +41,17 @@ impl Path {
         ensures word { IfOk result (λ p. p.word.items ≡ []) }
         ensures triangles { IfOk result (λ p. p.triangles.items ≡ []) }
         ensures steps { IfOk result (λ p. p.steps.items ≡ steps.now) }
+        ensures starts { IfOk result (λ p. p.starts.items ≡ []) }
     {
         let word = Vec::with_capacity(alloc, room)?;
         let triangles = Vec::with_capacity(alloc, room)?;
         let steps = Vec::from_slice(alloc, steps)?;
+        let starts = Vec::with_capacity(alloc, room)?;
         Ok(Path {
             word,
             triangles,
             steps,
+            starts,
             between: Vec::new(alloc),
         })
     }
@@ -55,6 +61,7 @@ impl Path {
         requires { start < length self.old.steps.items }
         ensures word { self.new.word ≡ self.old.word }
         ensures triangles { self.new.triangles ≡ self.old.triangles }
+        ensures starts { self.new.starts ≡ self.old.starts }
         ensures steps { OnOk result ((a b : ℕ) (fs : List (ℕ × ℕ)) → drop start self.old.steps.items ≡ (a, b) ∷ fs
             → self.new.steps.items ≡ self.old.steps.items ++ after_side (c, a) (after_side (b, c) fs)) }
     {
@@ -72,10 +79,13 @@ impl Path {
         ensures triangles { OnOk result (self.new.triangles.items ≡ self.old.triangles.items ++ triangle ∷ []) }
         ensures steps { OnOk result ((a b : ℕ) (fs : List (ℕ × ℕ)) → drop start self.old.steps.items ≡ (a, b) ∷ fs
             → self.new.steps.items ≡ self.old.steps.items ++ after_side (c, a) (after_side (b, c) fs)) }
+        ensures starts { OnOk result (self.new.starts.items ≡ self.old.starts.items ++ length self.old.steps.items ∷ []) }
     {
+        let next = self.steps.len();
         self.push_steps(start, c)?;
         self.word.push(c)?;
         self.triangles.push(triangle)?;
+        self.starts.push(next)?;
         Ok(())
     }
 
@@ -84,9 +94,67 @@ impl Path {
         ensures word { (word : List ℕ) (c : ℕ) → self.old.word.items ≡ word ++ c ∷ [] → self.new.word.items ≡ word }
         ensures triangles { (ts : List Triangle) (t : Triangle) → self.old.triangles.items ≡ ts ++ t ∷ [] → self.new.triangles.items ≡ ts }
         ensures steps { self.new.steps.items ≡ take steps self.old.steps.items }
+        ensures starts { (ss : List ℕ) (s : ℕ) → self.old.starts.items ≡ ss ++ s ∷ [] → self.new.starts.items ≡ ss }
     {
         let _ = self.word.pop();
         let _ = self.triangles.pop();
+        let _ = self.starts.pop();
         self.steps.truncate(steps);
+    }
+
+    /// The last of the starts, or 0.
+    fn last_start(&self) -> usize
+        ensures first { self.now.starts.items ≡ [] → result ≡ 0 }
+        ensures last { (ss : List ℕ) (s : ℕ) → self.now.starts.items ≡ ss ++ s ∷ [] → result ≡ s }
+    {
+        match self.starts.last() {
+            None => 0,
+            Some(start) => *start,
+        }
+    }
+
+    /// Where the list begins that waits now.
+    pub fn start(&self) -> usize
+        ensures { (root : List (ℕ × ℕ)) (r : List ℕ) → Keeps root r self.now → (result ≤ length self.now.steps.items) × (drop result self.now.steps.items ≡ waiting_after root r) }
+    {
+        self.last_start()
+    }
+
+    /// Adds a number with the triangle that closes the first step that waits.
+    pub fn close(&mut self, c: u32) -> Result<(), AllocError>
+        requires { (root : List (ℕ × ℕ)) × (r : List ℕ) × Keeps root r self.old × (0 < length (waiting_after root r)) }
+        ensures { OnOk result ((root : List (ℕ × ℕ)) (r : List ℕ) → Keeps root r self.old → Keeps root (c ∷ r) self.new) }
+    {
+        let start = self.start();
+        let (a, b) = self.steps[start];
+        self.push(start, c, written(a, b, c))?;
+        Ok(())
+    }
+
+    /// Whether the word has no number.
+    pub fn is_empty(&self) -> bool
+        ensures when_true { result ≡ true → length self.now.word.items ≡ 0 }
+        ensures when_false { result ≡ false → 0 < length self.now.word.items }
+    {
+        self.word.is_empty()
+    }
+
+    /// The last number of the word.
+    fn last(&self) -> u32
+        requires { 0 < length self.now.word.items }
+        ensures { (word : List ℕ) (c : ℕ) → self.now.word.items ≡ word ++ c ∷ [] → result ≡ c }
+    {
+        self.word[self.word.len() - 1]
+    }
+
+    /// Takes the last number back, with its triangle and the steps that wait after it. The answer is this number.
+    pub fn back(&mut self) -> u32
+        requires { 0 < length self.old.word.items }
+        ensures { (root : List (ℕ × ℕ)) (r : List ℕ) (c : ℕ) → Keeps root (c ∷ r) self.old → (result ≡ c) × Keeps root r self.new }
+    {
+        let c = self.last();
+        let steps = self.last_start();
+        self.pop(steps);
+        c
     }
 }

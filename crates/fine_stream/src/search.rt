@@ -1,10 +1,9 @@
 //! The search for the first word that leads on to the end.
 ghost use Rattle.std.specs.Prelude.{◌≡◌, ℕ, ◌<◌, ◌≤◌, true, false, List, Option, None, Some, length, drop, MatchBool, IfOk};
 ghost use Rattle.ntfe_model.specs.declared.triangle.Triangle.{Triangle};
-ghost use Rattle.ntfe_model.specs.Lists.{IsBelow};
 ghost use Rattle.ntfe_model.specs.Charts.{IsOf};
 ghost use Rattle.ntfe_model.specs.Charts.{AreApart};
-ghost use Rattle.fine_stream.specs.Paths.{AreOf, IsPart, Completes};
+ghost use Rattle.fine_stream.specs.Paths.{AreOf, IsPart};
 ghost use Rattle.fine_stream.specs.Found.{IsAfter, BeginsAfter, BeginsWith, Adds, AddsNone};
 
 use crate::path::{Path, written};
@@ -80,33 +79,4 @@ fn add_with(
     }
     path.pop(next);
     Ok(false)
-}
-
-/// Adds to the path the first word after the last one that leads on to the end, where the steps from
-/// `start` on wait. The answer is whether there is one.
-pub fn add_next(
-    chart: &Chart,
-    start: usize,
-    last: &[u32],
-    path: &mut Path,
-) -> Result<bool, AllocError>
-    requires start { start ≤ length path.old.steps.items }
-    requires points { AreOf chart.now (drop start path.old.steps.items) }
-    requires part { IsPart chart.now path.old.triangles.items }
-    requires last { (us : List Triangle) × Completes chart.now path.old.triangles.items (drop start path.old.steps.items) last.now us }
-    ensures { IfOk result (λ found. MatchBool found (Adds chart.now (drop start path.old.steps.items) (IsBelow last.now) path.old path.new) (AddsNone chart.now (drop start path.old.steps.items) (IsBelow last.now) path.old path.new)) }
-{
-    if last.is_empty() {
-        return Ok(false);
-    }
-    let c = last[0];
-    let (a, b) = path.steps[start];
-    let next = path.steps.len();
-    path.push(start, c, written(a, b, c))?;
-    if add_next(chart, next, &last[1..], path)? {
-        return Ok(true);
-    }
-    path.pop(next);
-    let found = add_first(chart, start, Some(c), path)?;
-    Ok(found)
 }

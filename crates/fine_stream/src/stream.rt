@@ -2,7 +2,8 @@
 ghost use Rattle.std.specs.Prelude.{◌≡◌, ℕ, IfOk, OnErr};
 ghost use Rattle.ntfe_model.specs.Words.{IsItem};
 
-use crate::find::find;
+use crate::find::{Found, find};
+use crate::path::Path;
 use crate::position::Position;
 use face_chart::Chart;
 use ntfe_model::Triangulation;
@@ -15,16 +16,18 @@ pub struct Stream {
     alloc: Global,
     chart: Chart,
     position: Position,
+    /// The path of the last item, where it is kept: from there the search goes on.
+    path: Option<Path>,
 }
 
 impl Model for Stream {
-    ghost use Rattle.fine_stream.specs.Cursors.{Cursor, IsCursor};
+    ghost use Rattle.fine_stream.specs.Cursors.{Cursor, IsStanding};
 
     ghost Value = { Cursor };
 
     ghost view = { λ s. record { patch = s.chart; position = s.position } };
 
-    ghost invariant = { λ s. IsCursor (record { patch = s.chart; position = s.position }) };
+    ghost invariant = { λ s. IsStanding s.chart s.position s.path };
 }
 
 impl Stream {
@@ -43,6 +46,7 @@ impl Stream {
             alloc,
             chart,
             position: Position::Start,
+            path: None,
         })
     }
 
@@ -64,6 +68,7 @@ impl Stream {
             alloc,
             chart,
             position: Position::After(word),
+            path: None,
         })
     }
 
@@ -84,14 +89,16 @@ impl Stream {
         ensures answer { IfOk result (IsNextItem self.old self.new) }
         ensures unchanged { OnErr result (self.new ≡ self.old) }
     {
-        match find(self.alloc, &self.chart, &self.position)? {
+        let kept = self.path.take();
+        match find(self.alloc, &self.chart, &self.position, kept)? {
             None => {
                 self.position = Position::End;
                 Ok(None)
             }
-            Some(item) => {
+            Some(Found { item, path }) => {
                 let word = item.word.try_clone(self.alloc)?;
                 self.position = Position::After(word);
+                self.path = Some(path);
                 Ok(Some(item))
             }
         }

@@ -72,7 +72,7 @@ add_with-add_first-requires t c =
     let shown = written_left steps c.args.start c.args.c c.written-triangle.result c.index.result.now c.requires.start c.index.ensures c.written-triangle.ensures in
     let on =
     step_on h (drop c.args.start steps) c.len-next.result c.args.c c.written-triangle.result c.args.path.now c.push.new.self (some_left steps c.args.start c.requires.start) e c.in_ok-push.ensures.steps shown
-    c.in_ok-push.ensures.word c.in_ok-push.ensures.triangles in
+    c.in_ok-push.ensures.word c.in_ok-push.ensures.triangles c.in_ok-push.ensures.starts in
     let fit : IsPart h (c.args.path.now.triangles.items ++ c.written-triangle.result ∷ []) =
     (let P : List Triangle → Type 0 = λ us. IsPart h (us ++ c.written-triangle.result ∷ []) in subst P c.as_slice.ensures.value (c.fits.ensures.when_true c.if-not-fits.false)) in
     let part = step_part h (drop c.args.start steps) (drop c.len-next.result c.push.new.self.steps.items) c.args.c c.written-triangle.result c.args.path.now c.push.new.self on shown fit in
@@ -97,7 +97,7 @@ add_with-returns-then-branch t c =
     (step_on c.args.chart.now (drop c.args.start steps) c.len-next.result c.args.c c.written-triangle.result c.args.path.now c.push.new.self (some_left steps c.args.start c.requires.start) e
     c.in_ok-push.ensures.steps
     (written_left steps c.args.start c.args.c c.written-triangle.result c.index.result.now c.requires.start c.index.ensures c.written-triangle.ensures)
-    c.in_ok-push.ensures.word c.in_ok-push.ensures.triangles)
+    c.in_ok-push.ensures.word c.in_ok-push.ensures.triangles c.in_ok-push.ensures.starts)
     (c.is_after.ensures.when_true c.if-not-is_after.false)
     (when_true c.in_ok-add_first.field-0 _ _ c.if-branch.true c.in_ok-add_first.ensures)
 
@@ -109,6 +109,6 @@ add_with-returns t c =
     (step_on c.args.chart.now (drop c.args.start steps) c.len-next.result c.args.c c.written-triangle.result c.args.path.now c.push.new.self (some_left steps c.args.start c.requires.start) e
     c.in_ok-push.ensures.steps
     (written_left steps c.args.start c.args.c c.written-triangle.result c.index.result.now c.requires.start c.index.ensures c.written-triangle.ensures)
-    c.in_ok-push.ensures.word c.in_ok-push.ensures.triangles) e
+    c.in_ok-push.ensures.word c.in_ok-push.ensures.triangles c.in_ok-push.ensures.starts) e
     (when_false c.in_ok-add_first.field-0 _ _ c.if-branch.false c.in_ok-add_first.ensures)
-    (record { word = c.pop.ensures.word; triangles = c.pop.ensures.triangles; steps = c.pop.ensures.steps })
+    (record { word = c.pop.ensures.word; triangles = c.pop.ensures.triangles; steps = c.pop.ensures.steps; starts = c.pop.ensures.starts })

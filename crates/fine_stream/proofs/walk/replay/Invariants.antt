@@ -1,0 +1,5 @@
+use Rattle.fine_stream.proofs.Going.{IsReplaying}
+use Rattle.fine_stream.proofs.walk.replay.Given as goal
+
+abbrev pub invariant-loop-c : goal.invariant-loop-c
+invariant-loop-c l = IsReplaying l.word l.c-index l.fn.path l.path
