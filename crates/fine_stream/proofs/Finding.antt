@@ -1,16 +1,19 @@
 -- What the calls of the search add to the path.
-use Rattle.std.proofs.Common.{◌≡◌, ℕ, zero, suc, ◌+◌, ◌-◌, ◌*◌, ◌<◌, ◌≤◌, Bool, true, false, refl, sym, ap, ◌∙◌, subst, arith, List, [], ◌∷◌, ◌++◌, take, drop, length, get_or, Option, None, append_assoc, append-nil}
-use Rattle.std.specs.Prelude.{All, AllPairs, MatchBool}
+use Rattle.std.proofs.Common.{◌≡◌, ℕ, zero, suc, ◌+◌, ◌-◌, ◌*◌, ◌<◌, ◌≤◌, Bool, true, false, refl, sym, ap, ◌∙◌, subst, arith, List, [], ◌∷◌, ◌++◌, take, drop, length, get_or, Option, None, append_assoc, append-nil, map}
+use Rattle.std.specs.Prelude.{All, AllPairs, Contains, MatchBool}
 use Rattle.std.proofs.Math.Seq.{drop-append_seam, take-append_seam, drop-length}
 use Rattle.std.proofs.lemmas.List.{take_all, get_or_read}
 use Rattle.std.proofs.lemmas.List.Elements.{All-contains, All-more, All-same, Contains-get_or}
-use Rattle.ntfe_model.specs.Charts.{Patch, IsOf, spot_numbers}
+use Rattle.ntfe_model.specs.Charts.{Patch, IsOf, IsUnit}
 use Rattle.ntfe_model.specs.Words.{written}
 use Rattle.ntfe_model.specs.declared.triangle.Triangle.{Triangle}
 use Rattle.fine_stream.specs.Paths.{AreOf, IsPart}
 use Rattle.fine_stream.specs.Kept.{Keeps, waiting_after, closing, closed_with}
 use Rattle.fine_stream.specs.Found.{IsAfter, BeginsAfter, BeginsWith, IsFirst, HasNone, Adds, AddsNone}
+use Rattle.fine_stream.specs.Places.{IsPlaceOf, AreCandidates, AreTables}
 use Rattle.fine_stream.specs.declared.path.Path.{Path}
+use Rattle.fine_stream.specs.declared.tables.Candidate.{Candidate}
+use Rattle.fine_stream.specs.declared.tables.Tables.{Tables}
 use Rattle.fine_stream.proofs.Searches.{closed, first_empty, with_found, with_none, turn_found, turn_none, none_fitting, none_after, written_of, closed_of}
 
 pub when_true : (b : Bool) (P Q : Type 0) → b ≡ true → MatchBool b P Q → P
@@ -94,28 +97,29 @@ adds_empty h steps limit before e p =
     })
 
 -- a word that begins with the number at place i
-pub adds_turn : (h : Patch) (steps es : List (ℕ × ℕ)) (limit : Option ℕ) (ks : List ℕ) (i : ℕ) (before now after : Path) → 0 < length steps → es ≡ steps → ks ≡ spot_numbers h → AllPairs (λ j k. j < k) ks
-    → i < length ks → IsTurning h steps limit ks i before now → Adds h es (BeginsWith limit (get_or ks i 0)) now after → Adds h steps (BeginsAfter limit) before after
-adds_turn h steps es limit ks i before now after s e same o l t a =
-    let P : List (ℕ × ℕ) → Type 0 = λ fs. Adds h fs (BeginsWith limit (get_or ks i 0)) now after in by steps s t (subst P e a)
+pub adds_turn : (h : Patch) (steps es : List (ℕ × ℕ)) (limit : Option ℕ) (ks : List ℕ) (i : ℕ) (before now after : Path) → 0 < length steps → es ≡ steps
+    → ((d : ℕ) → IsUnit h (first_step steps).0 (first_step steps).1 d → Contains ks d) → AllPairs (λ j k. j < k) ks → i < length ks → IsTurning h steps limit ks i before now → Adds h es (BeginsWith limit (get_or ks i 0)) now after → Adds h steps (BeginsAfter limit) before after
+adds_turn h steps es limit ks i before now after s e complete o l t a =
+    let P : List (ℕ × ℕ) → Type 0 = λ fs. Adds h fs (BeginsWith limit (get_or ks i 0)) now after in by steps complete s t (subst P e a)
   where
-    by : (steps : List (ℕ × ℕ)) → 0 < length steps → IsTurning h steps limit ks i before now → Adds h steps (BeginsWith limit (get_or ks i 0)) now after → Adds h steps (BeginsAfter limit) before after
-    by [] s t a = absurd (omega (arith, s))
-    by ((x, y) ∷ fs) s t a = record {
+    by : (steps : List (ℕ × ℕ)) → ((d : ℕ) → IsUnit h (first_step steps).0 (first_step steps).1 d → Contains ks d) → 0 < length steps → IsTurning h steps limit ks i before now → Adds h steps (BeginsWith limit (get_or ks i 0)) now after → Adds h steps (BeginsAfter limit) before after
+    by [] f s t a = absurd (omega (arith, s))
+    by ((x, y) ∷ fs) f s t a = record {
       word = a.word;
       triangles = a.triangles;
       is = let P : List Triangle → Type 0 = λ us. IsFirst h us ((x, y) ∷ fs) (BeginsWith limit (get_or ks i 0)) a.word a.triangles in
-          turn_found h before.triangles.items x y fs limit ks i (get_or ks i 0) a.word a.triangles same o l refl t.none (subst P t.all a.is);
+          turn_found h before.triangles.items x y fs limit ks i (get_or ks i 0) a.word a.triangles f o l refl t.none (subst P t.all a.is);
       words = a.words ∙ ap (λ w. w ++ a.word) t.words;
       all = a.all ∙ ap (λ us. us ++ a.triangles) t.all;
       kept = λ root r k f. a.kept root r (keeps_same root r before now k t.words t.all t.waiting t.starts) f;
     }
 
-pub none_turn : (h : Patch) (steps : List (ℕ × ℕ)) (limit : Option ℕ) (ks : List ℕ) (i : ℕ) (before now : Path) → 0 < length steps → ks ≡ spot_numbers h → length ks ≤ i
+pub none_turn : (h : Patch) (steps : List (ℕ × ℕ)) (limit : Option ℕ) (ks : List ℕ) (i : ℕ) (before now : Path) → 0 < length steps
+    → ((d : ℕ) → IsUnit h (first_step steps).0 (first_step steps).1 d → Contains ks d) → length ks ≤ i
     → IsTurning h steps limit ks i before now → AddsNone h steps (BeginsAfter limit) before now
-none_turn h [] limit ks i before now s same l t = absurd (omega (arith, s))
-none_turn h ((x, y) ∷ fs) limit ks i before now s same l t = record {
-  none = turn_none h before.triangles.items x y fs limit ks same
+none_turn h [] limit ks i before now s f l t = absurd (omega (arith, s))
+none_turn h ((x, y) ∷ fs) limit ks i before now s f l t = record {
+  none = turn_none h before.triangles.items x y fs limit ks f
       (All-same (λ d. HasNone h before.triangles.items ((x, y) ∷ fs) (BeginsWith limit d)) ks (take i ks) (sym (take_all i ks l)) t.none);
   words = t.words;
   all = t.all;
@@ -133,6 +137,59 @@ turning_more h steps es limit ks i before now after e l t a = record {
   none = All-more (λ d. HasNone h before.triangles.items steps (BeginsWith limit d)) ks i 0 l t.none
       (carried (λ us fs. HasNone h us fs (BeginsWith limit (get_or ks i 0))) now.triangles.items before.triangles.items es steps t.all e a.none);
 }
+
+-- ---- all candidates in turn
+
+pub first_closed : (c : ℕ) (steps : List (ℕ × ℕ)) → closing c steps ≡ written (first_step steps).0 (first_step steps).1 c
+first_closed c [] = refl
+first_closed c ((x, y) ∷ fs) = refl
+
+abbrev pub points_of : List Candidate → List ℕ
+points_of cs = map (λ x. x.point) cs
+
+pub count_points : (cs : List Candidate) → length (points_of cs) ≡ length cs
+count_points [] = refl
+count_points (c ∷ cs) = ap suc (count_points cs)
+
+point_at : (cs : List Candidate) (i : ℕ) (d : Candidate) → i < length cs → get_or (points_of cs) i 0 ≡ (get_or cs i d).point
+point_at [] i d l = absurd (omega (arith, l))
+point_at (c ∷ cs) zero d l = refl
+point_at (c ∷ cs) (suc i) d l = point_at cs i d (omega (arith, l))
+
+-- the step at a place is the first one from there on
+pub step_at : (steps : List (ℕ × ℕ)) (n : ℕ) (e : ℕ × ℕ) → n < length steps → e ≡ get_or steps n e → e ≡ first_step (drop n steps)
+step_at steps n e l r = get_or_read steps n e l r (0, 0) ∙ first_left steps n
+
+pub candidates_at : (h : Patch) (x : Tables) (steps : List (ℕ × ℕ)) (n : ℕ) (e : ℕ × ℕ) (cs : List Candidate) → n < length steps → e ≡ get_or steps n e
+    → ((h : Patch) → AreTables h x → AreCandidates h x.triples.items e.0 e.1 cs) → AreTables h x → AreCandidates h x.triples.items (first_step (drop n steps)).0 (first_step (drop n steps)).1 cs
+candidates_at h x steps n e cs l r f t = let P : ℕ × ℕ → Type 0 = λ g. AreCandidates h x.triples.items g.0 g.1 cs in subst P (step_at steps n e l r) (f h t)
+
+pub adds_candidate : (h : Patch) (triples : List Triangle) (steps es : List (ℕ × ℕ)) (limit : Option ℕ) (cs : List Candidate) (i : ℕ) (d : Candidate) (before now after : Path) → 0 < length steps → es ≡ steps
+    → AreCandidates h triples (first_step steps).0 (first_step steps).1 cs → i < length cs → IsTurning h steps limit (points_of cs) i before now
+    → Adds h es (BeginsWith limit (get_or cs i d).point) now after → Adds h steps (BeginsAfter limit) before after
+adds_candidate h triples steps es limit cs i d before now after s e k l t a =
+    let n = count_points cs in let P : ℕ → Type 0 = λ c. Adds h es (BeginsWith limit c) now after in
+    adds_turn h steps es limit (points_of cs) i before now after s e k.complete k.rising (omega arith) t (subst P (sym (point_at cs i d l)) a)
+
+pub none_candidate : (h : Patch) (triples : List Triangle) (steps : List (ℕ × ℕ)) (limit : Option ℕ) (cs : List Candidate) (i : ℕ) (before now : Path) → 0 < length steps
+    → AreCandidates h triples (first_step steps).0 (first_step steps).1 cs → length cs ≤ i → IsTurning h steps limit (points_of cs) i before now → AddsNone h steps (BeginsAfter limit) before now
+none_candidate h triples steps limit cs i before now s k l t = let n = count_points cs in none_turn h steps limit (points_of cs) i before now s k.complete (omega arith) t
+
+pub candidate_more : (h : Patch) (steps es : List (ℕ × ℕ)) (limit : Option ℕ) (cs : List Candidate) (i : ℕ) (d : Candidate) (before now after : Path) → es ≡ steps → i < length cs → IsTurning h steps limit (points_of cs) i before now
+    → AddsNone h es (BeginsWith limit (get_or cs i d).point) now after → IsTurning h steps limit (points_of cs) (i + 1) before after
+candidate_more h steps es limit cs i d before now after e l t a =
+    let n = count_points cs in let P : ℕ → Type 0 = λ c. AddsNone h es (BeginsWith limit c) now after in
+    turning_more h steps es limit (points_of cs) i before now after e (omega arith) t (subst P (sym (point_at cs i d l)) a)
+
+pub candidate_place : (h : Patch) (triples : List Triangle) (steps es : List (ℕ × ℕ)) (cs : List Candidate) (i : ℕ) (d : Candidate) → es ≡ steps → AreCandidates h triples (first_step steps).0 (first_step steps).1 cs
+    → i < length cs → IsPlaceOf triples (get_or cs i d).place (closing (get_or cs i d).point es)
+candidate_place h triples steps es cs i d e k l =
+    let P : Triangle → Type 0 = λ t. IsPlaceOf triples (get_or cs i d).place t in
+    subst P (sym (first_closed (get_or cs i d).point steps) ∙ ap (closing (get_or cs i d).point) (sym e)) (k.places i d l)
+
+-- the place of the triple that closes the first step
+pub closing_place : (triples : List Triangle) (p c : ℕ) (steps : List (ℕ × ℕ)) (t : Triangle) → IsPlaceOf triples p (closing c steps) → t ≡ written (first_step steps).0 (first_step steps).1 c → IsPlaceOf triples p t
+closing_place triples p c steps t k e = let P : Triangle → Type 0 = λ u. IsPlaceOf triples p u in subst P (first_closed c steps ∙ sym e) k
 
 -- ---- one number
 
@@ -182,10 +239,6 @@ step_on h ((x, y) ∷ fs) n c t before now s l f e w a b =
       waiting = g ∙ ap (λ es. before.steps.items ++ es) (sym front);
       starts = b;
     }
-
-first_closed : (c : ℕ) (steps : List (ℕ × ℕ)) → closing c steps ≡ written (first_step steps).0 (first_step steps).1 c
-first_closed c [] = refl
-first_closed c ((x, y) ∷ fs) = refl
 
 rest_closed : (c : ℕ) (steps : List (ℕ × ℕ)) → 0 < length steps → closed (first_step steps).0 (first_step steps).1 c (rest_of steps) ≡ closed_with c steps
 rest_closed c [] s = absurd (omega (arith, s))

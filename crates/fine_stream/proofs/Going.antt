@@ -3,7 +3,7 @@
 --     going_first, going_step, going_found, going_passed, going_end, shorter      the way back
 --     replay_some, replay_more      the way along a word from its beginning
 use Rattle.std.proofs.Common.{◌≡◌, ℕ, zero, suc, ◌+◌, ◌<◌, ◌≤◌, refl, sym, ap, ◌∙◌, subst, arith, List, [], ◌∷◌, ◌++◌, take, drop, length, get_or, Some, append_assoc, append-nil}
-use Rattle.std.proofs.Math.Seq.{drop-append_seam, take-append_seam}
+use Rattle.std.proofs.Math.Seq.{drop-append_seam, take-append_seam, take-suc}
 use Rattle.ntfe_model.specs.Lists.{IsBelow}
 use Rattle.ntfe_model.specs.Charts.{Patch, AreSteps}
 use Rattle.ntfe_model.specs.Words.{written, Closes}
@@ -15,7 +15,7 @@ use Rattle.fine_stream.specs.Cursors.{IsWhole, FindsFirst, FindsNone}
 use Rattle.fine_stream.specs.declared.path.Path.{Path}
 use Rattle.fine_stream.proofs.Searches.{closed, closed_of, fits_unit, next_found, next_later, next_none, below_empty}
 use Rattle.fine_stream.proofs.Finding.{keeps_same, keeps_on, step_on, some_left, written_left}
-use Rattle.fine_stream.proofs.Parts.{part_left}
+use Rattle.fine_stream.proofs.Parts.{part_left, one_before}
 use Rattle.fine_stream.proofs.Waiting.{steps_of}
 
 -- ---- what a path keeps
@@ -216,6 +216,14 @@ going_step h last p q d g l back = by g.numbers g.keeps g.is g.part g.none
           none = n;
         })
 
+-- what holds wherever the path has a last number
+pub going_some : (h : Patch) (last : List ℕ) (p : Path) (X : Type 0) → IsGoingBack h last p → 0 < length p.word.items → ((root : List (ℕ × ℕ)) (r : List ℕ) (c : ℕ) → Keeps root (c ∷ r) p → X) → X
+going_some h last p X g l f = by g.numbers g.keeps
+  where
+    by : (r : List ℕ) → Keeps g.root r p → X
+    by [] k = absurd (let m = ap length k.word in omega (arith, l, m))
+    by (c ∷ r) k = f g.root r c k
+
 pub going_found : (h : Patch) (last : List ℕ) (c : ℕ) (es : List (ℕ × ℕ)) (q p : Path) (b : IsBackAt h last c q) → es ≡ waiting_after b.root b.numbers → Adds h es (BeginsAfter (Some c)) q p → FindsFirst h (IsBelow last) p
 going_found h last c es q p b e a =
     let root = b.root in let r = b.numbers in let ts = triangles_after root r in let fs = waiting_after root r in
@@ -269,23 +277,13 @@ pub record IsReplayed (root : List (ℕ × ℕ)) (word : List ℕ) (i : ℕ) (p 
 abbrev pub IsReplaying : List ℕ → ℕ → Path → Path → Type 0
 IsReplaying word i before now = (root : List (ℕ × ℕ)) (us : List Triangle) → Keeps root [] before → Closes root word us → IsReplayed root word i now
 
-split_drop : (word : List ℕ) (i d : ℕ) → i < length word → drop i word ≡ get_or word i d ∷ drop (suc i) word
-split_drop [] i d l = absurd (omega (arith, l))
-split_drop (x ∷ word) zero d l = refl
-split_drop (x ∷ word) (suc i) d l = split_drop word i d (omega arith)
-
-more_taken : (word : List ℕ) (i d : ℕ) → i < length word → take i word ++ get_or word i d ∷ [] ≡ take (suc i) word
-more_taken [] i d l = absurd (omega (arith, l))
-more_taken (x ∷ word) zero d l = refl
-more_taken (x ∷ word) (suc i) d l = ap (λ xs. x ∷ xs) (more_taken word i d (omega arith))
-
 next_place : (i : ℕ) → suc i ≡ i + 1
 next_place i = omega arith
 
 pub replay_some : (root : List (ℕ × ℕ)) (word : List ℕ) (i : ℕ) (p : Path) → i < length word → (s : IsReplayed root word i p) → 0 < length (waiting_after root s.numbers)
 replay_some root word i p l s =
     let P : List ℕ → Type 0 = λ v. Closes (waiting_after root s.numbers) v s.triangles in
-    closes_some (waiting_after root s.numbers) (get_or word i 0) (drop (suc i) word) s.triangles (subst P (split_drop word i 0 l) s.closes)
+    closes_some (waiting_after root s.numbers) (get_or word i 0) (drop (suc i) word) s.triangles (subst P (one_before word i 0 l) s.closes)
 
 pub replay_more : (root : List (ℕ × ℕ)) (word : List ℕ) (i d : ℕ) (p q : Path) → i < length word → IsReplayed root word i p
     → ((r : List ℕ) → Keeps root r p → Keeps root (get_or word i d ∷ r) q) → IsReplayed root word (i + 1) q
@@ -293,12 +291,12 @@ replay_more root word i d p q l s f =
     let c = get_or word i d in
     let P : List ℕ → Type 0 = λ v. Closes (waiting_after root s.numbers) v s.triangles in
     let N : ℕ → Type 0 = λ j. IsReplayed root word j q in
-    let n = one (waiting_after root s.numbers) c (drop (suc i) word) s.triangles (subst P (split_drop word i d l) s.closes) in
+    let n = one (waiting_after root s.numbers) c (drop (suc i) word) s.triangles (subst P (one_before word i d l) s.closes) in
     subst N (next_place i) (record {
       numbers = c ∷ s.numbers;
       triangles = n.0;
       keeps = f s.numbers s.keeps;
-      is = ap (λ v. v ++ c ∷ []) s.is ∙ more_taken word i d l;
+      is = ap (λ v. v ++ c ∷ []) s.is ∙ sym (take-suc word i d l);
       closes = n.1;
     })
   where

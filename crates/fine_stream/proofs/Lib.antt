@@ -4,6 +4,7 @@ pub mod Bound
 pub mod Searches
 pub mod Finding
 pub mod Going
+pub mod TableLemmas
 pub mod Waiting
 pub mod Numbers
 pub mod Standing

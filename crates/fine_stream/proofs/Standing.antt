@@ -1,6 +1,6 @@
 -- Where a stream stands before and after its answers.
 use Rattle.std.proofs.Common.{◌≡◌, ℕ, ◌+◌, refl, sym, ap, ◌∙◌, subst, arith, List, [], ◌++◌, Bool, true, false, Option, Some, None}
-use Rattle.std.specs.Prelude.{MatchBool}
+use Rattle.std.specs.Prelude.{MatchBool, MatchOption}
 use Rattle.ntfe_model.specs.Charts.{Patch, AreSteps}
 use Rattle.ntfe_model.specs.Lists.{IsBelow}
 use Rattle.ntfe_model.specs.Words.{IsItem, Closes}
@@ -11,7 +11,9 @@ use Rattle.fine_stream.specs.Paths.{AreOf, IsPart, Completes}
 use Rattle.fine_stream.specs.Found.{BeginsAfter, IsFirst, HasNone, Adds, AddsNone}
 use Rattle.fine_stream.specs.Kept.{Keeps, spelled}
 use Rattle.fine_stream.specs.Cursors.{Cursor, IsCursor, IsStanding, IsPlace, Follows, IsWhole, LeadsTo, FindsFirst, FindsNone, IsFoundItem, IsFoundAfter, IsNextItem}
+use Rattle.fine_stream.specs.Places.{ArePlaced, AreTables}
 use Rattle.fine_stream.specs.declared.find.Found.{Found}
+use Rattle.fine_stream.specs.declared.tables.Tables.{Tables}
 use Rattle.fine_stream.specs.declared.path.Path.{Path}
 use Rattle.fine_stream.specs.declared.position.Position.{Position}
 use Rattle.fine_stream.specs.declared.position.Position.TheVariants.{Start, After, End}
@@ -144,12 +146,21 @@ found_some h p o x f e = let A : Option Found → Type 0 = λ q. IsFoundAfter h 
 pub place_next : (h : Patch) (n : ℕ) (x : Triangulation) (word : List ℕ) → IsItem h n x → word ≡ x.word → IsPlace h (n + 1) (After word)
 place_next h n x word i e = (n, x, i, sym e, refl)
 
-pub cursor_next : (h : Patch) (p : Position) (o : Option Found) (x : Found) (word : List ℕ) → IsFoundAfter h p o → o ≡ Some x → word ≡ x.item.word
-    → IsCursor (record { patch = h; position = p }) → IsStanding h (After word) (Some x.path)
-cursor_next h p o x word f e g (n, s) =
-    let i = found_some h p o x f e in record {
+pub cursor_end : (h : Patch) (p : Position) (t : Tables) (o : Option Found) (kept : Option Path) → IsFoundAfter h p o → o ≡ None → IsCursor (record { patch = h; position = p }) → AreTables h t → kept ≡ None
+    → IsStanding h End t kept
+cursor_end h p t o kept f e (n, s) tables k =
+    let P : Option Path → Type 0 = λ q. IsStanding h End t q in
+    subst P (sym k) (record { cursor = (n, record { place = found_none h p o f e n s.place }); path = tt; tables = tables; placed = tt })
+
+pub cursor_next : (h : Patch) (p : Position) (t : Tables) (o : Option Found) (x : Found) (word : List ℕ) → IsFoundAfter h p o → o ≡ Some x → word ≡ x.item.word
+    → IsCursor (record { patch = h; position = p }) → AreTables h t → MatchOption o (Unit {0}) (λ y. ArePlaced t y.path) → IsStanding h (After word) t (Some x.path)
+cursor_next h p t o x word f e g (n, s) tables placed =
+    let i = found_some h p o x f e in
+    let P : Option Found → Type 0 = λ q. MatchOption q (Unit {0}) (λ y. ArePlaced t y.path) in record {
       cursor = (n + 1, record { place = place_next h n x.item word (i.item n s.place) g });
       path = (i.path.0, i.path.1 ∙ sym g);
+      tables = tables;
+      placed = let r : ArePlaced t x.path = subst P e placed in r;
     }
 
 pub answer_end : (h : Patch) (p : Position) (old : Cursor) (o : Option Found) → (let c : Cursor = record { patch = h; position = p } in c ≡ old) → IsFoundAfter h p o → o ≡ None

@@ -7,7 +7,9 @@ use Rattle.ntfe_model.specs.declared.triangulation.Triangulation.{Triangulation}
 use Rattle.fine_stream.specs.Paths.{Completes}
 use Rattle.fine_stream.specs.Kept.{Keeps}
 use Rattle.fine_stream.specs.Found.{IsFirst, HasNone}
+use Rattle.fine_stream.specs.Places.{ArePlaced, AreTables}
 use Rattle.fine_stream.specs.declared.path.Path.{Path}
+use Rattle.fine_stream.specs.declared.tables.Tables.{Tables}
 use Rattle.fine_stream.specs.declared.find.Found.{Found}
 use Rattle.fine_stream.specs.declared.position.Position.{Position}
 use Rattle.fine_stream.specs.declared.position.Position.TheVariants.{Start, After, End}
@@ -71,6 +73,10 @@ LeadsTo h End p = ⊤
 abbrev pub ArePathsOf : Patch → Position → Option Path → Type 0
 ArePathsOf h position kept = MatchOption kept ⊤ (LeadsTo h position)
 
+-- the path has its places in the tables, if there is one
+abbrev pub ArePlacedIn : Tables → Option Path → Type 0
+ArePlacedIn x kept = MatchOption kept ⊤ (ArePlaced x)
+
 -- the item is the next one after the position, and the path leads to it
 pub record IsFoundItem (h : Patch) (position : Position) (f : Found) : Type 0 where
   pub item : (n : ℕ) → IsPlace h n position → IsItem h n f.item
@@ -87,9 +93,11 @@ abbrev pub IsCursor : Cursor → Type 0
 IsCursor c = (n : ℕ) × StandsBefore c n
 
 -- the stream stands among the items of the face, and the path that it keeps leads there
-pub record IsStanding (h : Patch) (position : Position) (kept : Option Path) : Type 0 where
+pub record IsStanding (h : Patch) (position : Position) (x : Tables) (kept : Option Path) : Type 0 where
   pub cursor : IsCursor (record { patch = h; position = position })
   pub path : ArePathsOf h position kept
+  pub tables : AreTables h x
+  pub placed : ArePlacedIn x kept
 
 -- the answer of a stream: the next item, after which it stands, or none, where it stands at the end
 abbrev pub IsNextItem : Cursor → Cursor → Option Triangulation → Type 0

@@ -1,10 +1,12 @@
 //! The item after a position.
-ghost use Rattle.std.specs.Prelude.{◌≡◌, ℕ, IfOk, MatchBool};
-ghost use Rattle.fine_stream.specs.Cursors.{IsPlace, Follows, LeadsTo, ArePathsOf, FindsFirst, FindsNone, IsFoundAfter};
+ghost use Rattle.std.specs.Prelude.{◌≡◌, ℕ, IfOk, OnOk, MatchBool, MatchOption};
+ghost use Rattle.fine_stream.specs.Places.{ArePlaced, AreTables};
+ghost use Rattle.fine_stream.specs.Cursors.{IsPlace, Follows, LeadsTo, ArePathsOf, ArePlacedIn, FindsFirst, FindsNone, IsFoundAfter};
 
 use crate::path::Path;
 use crate::position::Position;
 use crate::search::add_first;
+use crate::tables::Tables;
 use crate::walk::{advance, replay};
 use face_chart::Chart;
 use ntfe_model::{List, Triangulation};
@@ -18,15 +20,21 @@ pub struct Found {
 }
 
 /// The path of the last item's word; before the first item the empty one.
-fn path_of(alloc: Global, chart: &Chart, position: &Position) -> Result<Path, AllocError>
+fn path_of(
+    alloc: Global,
+    chart: &Chart,
+    tables: &Tables,
+    position: &Position,
+) -> Result<Path, AllocError>
     requires { (n : ℕ) × IsPlace chart.now n position.now }
-    ensures { IfOk result (LeadsTo chart.now position.now) }
+    ensures path { IfOk result (LeadsTo chart.now position.now) }
+    ensures placed { IfOk result (ArePlaced tables.now) }
 {
     match position {
         Position::After(word) => {
             let word = word.as_slice();
             let mut path = Path::new(alloc, chart.boundary(), word.len())?;
-            replay(word, &mut path)?;
+            replay(tables, word, &mut path)?;
             Ok(path)
         }
         Position::Start | Position::End => {
@@ -37,19 +45,27 @@ fn path_of(alloc: Global, chart: &Chart, position: &Position) -> Result<Path, Al
 }
 
 /// Goes on from the path of the last item to that of the next one. The answer is whether there is one.
-fn go_on(chart: &Chart, position: &Position, path: &mut Path) -> Result<bool, AllocError>
-    requires { LeadsTo chart.now position.now path.old }
-    ensures { IfOk result (λ found. MatchBool found (FindsFirst chart.now (Follows position.now) path.new) (FindsNone chart.now (Follows position.now))) }
+fn go_on(
+    chart: &Chart,
+    tables: &Tables,
+    position: &Position,
+    path: &mut Path,
+) -> Result<bool, AllocError>
+    requires path { LeadsTo chart.now position.now path.old }
+    requires tables { AreTables chart.now tables.now }
+    requires placed { ArePlaced tables.now path.old }
+    ensures placed { OnOk result (ArePlaced tables.now path.new) }
+    ensures answer { IfOk result (λ found. MatchBool found (FindsFirst chart.now (Follows position.now) path.new) (FindsNone chart.now (Follows position.now))) }
 {
     // the steps are those of the boundary
     let _boundary = chart.boundary();
     match position {
         Position::Start => {
-            let found = add_first(chart, 0, None, path)?;
+            let found = add_first(chart, tables, 0, None, path)?;
             Ok(found)
         }
         Position::After(_) => {
-            let found = advance(chart, path)?;
+            let found = advance(chart, tables, path)?;
             Ok(found)
         }
         Position::End => Ok(false),
@@ -73,20 +89,24 @@ fn item_of(alloc: Global, path: &Path) -> Result<Triangulation, AllocError>
 pub fn find(
     alloc: Global,
     chart: &Chart,
+    tables: &Tables,
     position: &Position,
     kept: Option<Path>,
 ) -> Result<Option<Found>, AllocError>
     requires position { (n : ℕ) × IsPlace chart.now n position.now }
     requires kept { ArePathsOf chart.now position.now kept }
-    ensures { IfOk result (IsFoundAfter chart.now position.now) }
+    requires tables { AreTables chart.now tables.now }
+    requires placed { ArePlacedIn tables.now kept }
+    ensures answer { IfOk result (IsFoundAfter chart.now position.now) }
+    ensures placed { IfOk result (λ o. MatchOption o (Unit {0}) (λ f. ArePlaced tables.now f.path)) }
 {
     // the points lie apart
     let _points = chart.points();
     let mut path = match kept {
         Some(path) => path,
-        None => path_of(alloc, chart, position)?,
+        None => path_of(alloc, chart, tables, position)?,
     };
-    if !go_on(chart, position, &mut path)? {
+    if !go_on(chart, tables, position, &mut path)? {
         return Ok(None);
     }
     let item = item_of(alloc, &path)?;

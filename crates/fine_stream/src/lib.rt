@@ -10,6 +10,7 @@ mod row;
 mod search;
 mod sides;
 mod stream;
+mod tables;
 mod walk;
 
 pub use own_book::OwnBook;
