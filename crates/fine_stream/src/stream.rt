@@ -45,7 +45,7 @@ fn prepare(
 }
 
 /// The fine triangulations of a two-face in order of words, each once. After some thousands of items it makes tables
-/// of the unit triples, for two-faces with at most 64 points and 768 unit triples; they take at most 700 kilobytes.
+/// of the unit triples, for two-faces with at most 64 points and 768 unit triples; they take at most 900 kilobytes.
 #[derive(Drop)]
 pub struct Stream {
     alloc: Global,
