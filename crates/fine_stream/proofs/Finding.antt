@@ -1,18 +1,20 @@
 -- What the calls of the search add to the path.
-use Rattle.std.proofs.Common.{◌≡◌, ℕ, zero, suc, ◌+◌, ◌-◌, ◌*◌, ◌<◌, ◌≤◌, Bool, true, false, refl, sym, ap, ◌∙◌, subst, arith, List, [], ◌∷◌, ◌++◌, take, drop, length, get_or, Option, Some, None, append_assoc, append-nil, ◌==◌}
-use Rattle.std.specs.Prelude.{All, AllPairs, MatchBool}
+use Rattle.std.proofs.Common.{◌≡◌, ℕ, zero, suc, ◌+◌, ◌-◌, ◌*◌, ◌<◌, ◌≤◌, Bool, true, false, refl, sym, ap, ◌∙◌, subst, arith, List, [], ◌∷◌, ◌++◌, take, drop, length, get_or, Option, None, append_assoc, append-nil, map}
+use Rattle.std.specs.Prelude.{All, AllPairs, Contains, MatchBool}
 use Rattle.std.proofs.Math.Seq.{drop-append_seam, take-append_seam, drop-length}
-use Rattle.std.proofs.lemmas.Bool.Decides.{nat_tests}
 use Rattle.std.proofs.lemmas.List.{take_all, get_or_read}
 use Rattle.std.proofs.lemmas.List.Elements.{All-contains, All-more, All-same, Contains-get_or}
-use Rattle.ntfe_model.specs.Lists.{IsBelow}
-use Rattle.ntfe_model.specs.Charts.{Patch, IsOf, spot_numbers}
+use Rattle.ntfe_model.specs.Charts.{Patch, IsOf, IsUnit}
 use Rattle.ntfe_model.specs.Words.{written}
 use Rattle.ntfe_model.specs.declared.triangle.Triangle.{Triangle}
-use Rattle.fine_stream.specs.Paths.{AreOf, IsPart, Completes}
+use Rattle.fine_stream.specs.Paths.{AreOf, IsPart}
+use Rattle.fine_stream.specs.Kept.{Keeps, waiting_after, closing, closed_with}
 use Rattle.fine_stream.specs.Found.{IsAfter, BeginsAfter, BeginsWith, IsFirst, HasNone, Adds, AddsNone}
+use Rattle.fine_stream.specs.Places.{IsPlaceOf, AreCandidates, AreTables}
 use Rattle.fine_stream.specs.declared.path.Path.{Path}
-use Rattle.fine_stream.proofs.Searches.{closed, first_empty, with_found, with_none, turn_found, turn_none, none_fitting, none_after, next_found, next_later, next_none, empty_last, completes_fits, completes_rest, fits_unit, written_of, closed_of}
+use Rattle.fine_stream.specs.declared.tables.Candidate.{Candidate}
+use Rattle.fine_stream.specs.declared.tables.Tables.{Tables}
+use Rattle.fine_stream.proofs.Searches.{closed, first_empty, with_found, with_none, turn_found, turn_none, none_fitting, none_after, written_of, closed_of}
 
 pub when_true : (b : Bool) (P Q : Type 0) → b ≡ true → MatchBool b P Q → P
 when_true true P Q e m = m
@@ -21,12 +23,6 @@ when_true false P Q e m = cc
 pub when_false : (b : Bool) (P Q : Type 0) → b ≡ false → MatchBool b P Q → Q
 when_false true P Q e m = cc
 when_false false P Q e m = m
-
-pub none_long : (n : ℕ) → true ≡ (n == 0) → n ≡ 0
-none_long n e = grind (arith, nat_tests)
-
-pub some_long : (n : ℕ) → false ≡ (n == 0) → 0 < n
-some_long n e = grind (arith, nat_tests)
 
 -- the first of the steps
 abbrev pub first_step : List (ℕ × ℕ) → ℕ × ℕ
@@ -40,6 +36,11 @@ rest_of (e ∷ steps) = steps
 carried : (F : List Triangle → List (ℕ × ℕ) → Type 0) (us vs : List Triangle) (es fs : List (ℕ × ℕ)) → us ≡ vs → es ≡ fs → F us es → F vs fs
 carried F us vs es fs p q x = let A : List Triangle → Type 0 = λ ws. F ws es in let B : List (ℕ × ℕ) → Type 0 = λ gs. F vs gs in subst B q (subst A p x)
 
+-- what a path keeps, one with the same lists keeps
+pub keeps_same : (root : List (ℕ × ℕ)) (r : List ℕ) (p q : Path) → Keeps root r p → q.word.items ≡ p.word.items → q.triangles.items ≡ p.triangles.items → q.steps.items ≡ p.steps.items
+    → q.starts.items ≡ p.starts.items → Keeps root r q
+keeps_same root r p q k w t f s = record { word = w ∙ k.word; all = t ∙ k.all; waiting = f ∙ k.waiting; starts = s ∙ k.starts; closes = k.closes }
+
 -- ---- all numbers in turn
 
 -- the numbers before place i lead to no word, and the path is as it was
@@ -47,6 +48,7 @@ pub record IsTurning (h : Patch) (steps : List (ℕ × ℕ)) (limit : Option ℕ
   pub words : now.word.items ≡ before.word.items
   pub all : now.triangles.items ≡ before.triangles.items
   pub waiting : now.steps.items ≡ before.steps.items
+  pub starts : now.starts.items ≡ before.starts.items
   pub none : All (λ d. HasNone h before.triangles.items steps (BeginsWith limit d)) (take i ks)
 
 -- the steps from a place on
@@ -91,34 +93,38 @@ adds_empty h steps limit before e p =
       is = first_empty h before.triangles.items (BeginsAfter limit) p tt;
       words = sym (append-nil before.word.items);
       all = sym (append-nil before.triangles.items);
+      kept = λ root r k f. (r, k);
     })
 
 -- a word that begins with the number at place i
-pub adds_turn : (h : Patch) (steps es : List (ℕ × ℕ)) (limit : Option ℕ) (ks : List ℕ) (i : ℕ) (before now after : Path) → 0 < length steps → es ≡ steps → ks ≡ spot_numbers h → AllPairs (λ j k. j < k) ks
-    → i < length ks → IsTurning h steps limit ks i before now → Adds h es (BeginsWith limit (get_or ks i 0)) now after → Adds h steps (BeginsAfter limit) before after
-adds_turn h steps es limit ks i before now after s e same o l t a =
-    let P : List (ℕ × ℕ) → Type 0 = λ fs. Adds h fs (BeginsWith limit (get_or ks i 0)) now after in by steps s t (subst P e a)
+pub adds_turn : (h : Patch) (steps es : List (ℕ × ℕ)) (limit : Option ℕ) (ks : List ℕ) (i : ℕ) (before now after : Path) → 0 < length steps → es ≡ steps
+    → ((d : ℕ) → IsUnit h (first_step steps).0 (first_step steps).1 d → Contains ks d) → AllPairs (λ j k. j < k) ks → i < length ks → IsTurning h steps limit ks i before now → Adds h es (BeginsWith limit (get_or ks i 0)) now after → Adds h steps (BeginsAfter limit) before after
+adds_turn h steps es limit ks i before now after s e complete o l t a =
+    let P : List (ℕ × ℕ) → Type 0 = λ fs. Adds h fs (BeginsWith limit (get_or ks i 0)) now after in by steps complete s t (subst P e a)
   where
-    by : (steps : List (ℕ × ℕ)) → 0 < length steps → IsTurning h steps limit ks i before now → Adds h steps (BeginsWith limit (get_or ks i 0)) now after → Adds h steps (BeginsAfter limit) before after
-    by [] s t a = absurd (omega (arith, s))
-    by ((x, y) ∷ fs) s t a = record {
+    by : (steps : List (ℕ × ℕ)) → ((d : ℕ) → IsUnit h (first_step steps).0 (first_step steps).1 d → Contains ks d) → 0 < length steps → IsTurning h steps limit ks i before now → Adds h steps (BeginsWith limit (get_or ks i 0)) now after → Adds h steps (BeginsAfter limit) before after
+    by [] f s t a = absurd (omega (arith, s))
+    by ((x, y) ∷ fs) f s t a = record {
       word = a.word;
       triangles = a.triangles;
       is = let P : List Triangle → Type 0 = λ us. IsFirst h us ((x, y) ∷ fs) (BeginsWith limit (get_or ks i 0)) a.word a.triangles in
-          turn_found h before.triangles.items x y fs limit ks i (get_or ks i 0) a.word a.triangles same o l refl t.none (subst P t.all a.is);
+          turn_found h before.triangles.items x y fs limit ks i (get_or ks i 0) a.word a.triangles f o l refl t.none (subst P t.all a.is);
       words = a.words ∙ ap (λ w. w ++ a.word) t.words;
       all = a.all ∙ ap (λ us. us ++ a.triangles) t.all;
+      kept = λ root r k f. a.kept root r (keeps_same root r before now k t.words t.all t.waiting t.starts) f;
     }
 
-pub none_turn : (h : Patch) (steps : List (ℕ × ℕ)) (limit : Option ℕ) (ks : List ℕ) (i : ℕ) (before now : Path) → 0 < length steps → ks ≡ spot_numbers h → length ks ≤ i
+pub none_turn : (h : Patch) (steps : List (ℕ × ℕ)) (limit : Option ℕ) (ks : List ℕ) (i : ℕ) (before now : Path) → 0 < length steps
+    → ((d : ℕ) → IsUnit h (first_step steps).0 (first_step steps).1 d → Contains ks d) → length ks ≤ i
     → IsTurning h steps limit ks i before now → AddsNone h steps (BeginsAfter limit) before now
-none_turn h [] limit ks i before now s same l t = absurd (omega (arith, s))
-none_turn h ((x, y) ∷ fs) limit ks i before now s same l t = record {
-  none = turn_none h before.triangles.items x y fs limit ks same
+none_turn h [] limit ks i before now s f l t = absurd (omega (arith, s))
+none_turn h ((x, y) ∷ fs) limit ks i before now s f l t = record {
+  none = turn_none h before.triangles.items x y fs limit ks f
       (All-same (λ d. HasNone h before.triangles.items ((x, y) ∷ fs) (BeginsWith limit d)) ks (take i ks) (sym (take_all i ks l)) t.none);
   words = t.words;
   all = t.all;
   waiting = t.waiting;
+  starts = t.starts;
 }
 
 pub turning_more : (h : Patch) (steps es : List (ℕ × ℕ)) (limit : Option ℕ) (ks : List ℕ) (i : ℕ) (before now after : Path) → es ≡ steps → i < length ks → IsTurning h steps limit ks i before now
@@ -127,9 +133,63 @@ turning_more h steps es limit ks i before now after e l t a = record {
   words = a.words ∙ t.words;
   all = a.all ∙ t.all;
   waiting = a.waiting ∙ t.waiting;
+  starts = a.starts ∙ t.starts;
   none = All-more (λ d. HasNone h before.triangles.items steps (BeginsWith limit d)) ks i 0 l t.none
       (carried (λ us fs. HasNone h us fs (BeginsWith limit (get_or ks i 0))) now.triangles.items before.triangles.items es steps t.all e a.none);
 }
+
+-- ---- all candidates in turn
+
+pub first_closed : (c : ℕ) (steps : List (ℕ × ℕ)) → closing c steps ≡ written (first_step steps).0 (first_step steps).1 c
+first_closed c [] = refl
+first_closed c ((x, y) ∷ fs) = refl
+
+abbrev pub points_of : List Candidate → List ℕ
+points_of cs = map (λ x. x.point) cs
+
+pub count_points : (cs : List Candidate) → length (points_of cs) ≡ length cs
+count_points [] = refl
+count_points (c ∷ cs) = ap suc (count_points cs)
+
+point_at : (cs : List Candidate) (i : ℕ) (d : Candidate) → i < length cs → get_or (points_of cs) i 0 ≡ (get_or cs i d).point
+point_at [] i d l = absurd (omega (arith, l))
+point_at (c ∷ cs) zero d l = refl
+point_at (c ∷ cs) (suc i) d l = point_at cs i d (omega (arith, l))
+
+-- the step at a place is the first one from there on
+pub step_at : (steps : List (ℕ × ℕ)) (n : ℕ) (e : ℕ × ℕ) → n < length steps → e ≡ get_or steps n e → e ≡ first_step (drop n steps)
+step_at steps n e l r = get_or_read steps n e l r (0, 0) ∙ first_left steps n
+
+pub candidates_at : (h : Patch) (x : Tables) (steps : List (ℕ × ℕ)) (n : ℕ) (e : ℕ × ℕ) (cs : List Candidate) → n < length steps → e ≡ get_or steps n e
+    → ((h : Patch) → AreTables h x → AreCandidates h x.triples.items e.0 e.1 cs) → AreTables h x → AreCandidates h x.triples.items (first_step (drop n steps)).0 (first_step (drop n steps)).1 cs
+candidates_at h x steps n e cs l r f t = let P : ℕ × ℕ → Type 0 = λ g. AreCandidates h x.triples.items g.0 g.1 cs in subst P (step_at steps n e l r) (f h t)
+
+pub adds_candidate : (h : Patch) (triples : List Triangle) (steps es : List (ℕ × ℕ)) (limit : Option ℕ) (cs : List Candidate) (i : ℕ) (d : Candidate) (before now after : Path) → 0 < length steps → es ≡ steps
+    → AreCandidates h triples (first_step steps).0 (first_step steps).1 cs → i < length cs → IsTurning h steps limit (points_of cs) i before now
+    → Adds h es (BeginsWith limit (get_or cs i d).point) now after → Adds h steps (BeginsAfter limit) before after
+adds_candidate h triples steps es limit cs i d before now after s e k l t a =
+    let n = count_points cs in let P : ℕ → Type 0 = λ c. Adds h es (BeginsWith limit c) now after in
+    adds_turn h steps es limit (points_of cs) i before now after s e k.complete k.rising (omega arith) t (subst P (sym (point_at cs i d l)) a)
+
+pub none_candidate : (h : Patch) (triples : List Triangle) (steps : List (ℕ × ℕ)) (limit : Option ℕ) (cs : List Candidate) (i : ℕ) (before now : Path) → 0 < length steps
+    → AreCandidates h triples (first_step steps).0 (first_step steps).1 cs → length cs ≤ i → IsTurning h steps limit (points_of cs) i before now → AddsNone h steps (BeginsAfter limit) before now
+none_candidate h triples steps limit cs i before now s k l t = let n = count_points cs in none_turn h steps limit (points_of cs) i before now s k.complete (omega arith) t
+
+pub candidate_more : (h : Patch) (steps es : List (ℕ × ℕ)) (limit : Option ℕ) (cs : List Candidate) (i : ℕ) (d : Candidate) (before now after : Path) → es ≡ steps → i < length cs → IsTurning h steps limit (points_of cs) i before now
+    → AddsNone h es (BeginsWith limit (get_or cs i d).point) now after → IsTurning h steps limit (points_of cs) (i + 1) before after
+candidate_more h steps es limit cs i d before now after e l t a =
+    let n = count_points cs in let P : ℕ → Type 0 = λ c. AddsNone h es (BeginsWith limit c) now after in
+    turning_more h steps es limit (points_of cs) i before now after e (omega arith) t (subst P (sym (point_at cs i d l)) a)
+
+pub candidate_place : (h : Patch) (triples : List Triangle) (steps es : List (ℕ × ℕ)) (cs : List Candidate) (i : ℕ) (d : Candidate) → es ≡ steps → AreCandidates h triples (first_step steps).0 (first_step steps).1 cs
+    → i < length cs → IsPlaceOf triples (get_or cs i d).place (closing (get_or cs i d).point es)
+candidate_place h triples steps es cs i d e k l =
+    let P : Triangle → Type 0 = λ t. IsPlaceOf triples (get_or cs i d).place t in
+    subst P (sym (first_closed (get_or cs i d).point steps) ∙ ap (closing (get_or cs i d).point) (sym e)) (k.places i d l)
+
+-- the place of the triple that closes the first step
+pub closing_place : (triples : List Triangle) (p c : ℕ) (steps : List (ℕ × ℕ)) (t : Triangle) → IsPlaceOf triples p (closing c steps) → t ≡ written (first_step steps).0 (first_step steps).1 c → IsPlaceOf triples p t
+closing_place triples p c steps t k e = let P : Triangle → Type 0 = λ u. IsPlaceOf triples p u in subst P (first_closed c steps ∙ sym e) k
 
 -- ---- one number
 
@@ -148,10 +208,11 @@ adds_unfit h ((a, b) ∷ fs) limit c t before s e n = record {
   words = refl;
   all = refl;
   waiting = refl;
+  starts = refl;
 }
 
 pub adds_early : (h : Patch) (steps : List (ℕ × ℕ)) (limit : Option ℕ) (c : ℕ) (before : Path) → ¬ (IsAfter limit c) → AddsNone h steps (BeginsWith limit c) before before
-adds_early h steps limit c before n = record { none = none_after h before.triangles.items steps limit c n; words = refl; all = refl; waiting = refl }
+adds_early h steps limit c before n = record { none = none_after h before.triangles.items steps limit c n; words = refl; all = refl; waiting = refl; starts = refl }
 
 -- the path goes on by one triangle, and these steps wait then
 pub record IsStepOn (h : Patch) (steps next : List (ℕ × ℕ)) (c : ℕ) (before now : Path) : Type 0 where
@@ -160,12 +221,14 @@ pub record IsStepOn (h : Patch) (steps next : List (ℕ × ℕ)) (c : ℕ) (befo
   pub words : now.word.items ≡ before.word.items ++ c ∷ []
   pub all : now.triangles.items ≡ before.triangles.items ++ written (first_step steps).0 (first_step steps).1 c ∷ []
   pub waiting : now.steps.items ≡ before.steps.items ++ next
+  pub starts : now.starts.items ≡ before.starts.items ++ length before.steps.items ∷ []
 
 pub step_on : (h : Patch) (steps : List (ℕ × ℕ)) (n c : ℕ) (t : Triangle) (before now : Path) → 0 < length steps → n ≡ length before.steps.items
     → ((a b : ℕ) (fs : List (ℕ × ℕ)) → steps ≡ (a, b) ∷ fs → now.steps.items ≡ before.steps.items ++ closed a b c fs) → t ≡ written (first_step steps).0 (first_step steps).1 c
-    → now.word.items ≡ before.word.items ++ c ∷ [] → now.triangles.items ≡ before.triangles.items ++ t ∷ [] → IsStepOn h steps (drop n now.steps.items) c before now
-step_on h [] n c t before now s l f e w a = absurd (omega (arith, s))
-step_on h ((x, y) ∷ fs) n c t before now s l f e w a =
+    → now.word.items ≡ before.word.items ++ c ∷ [] → now.triangles.items ≡ before.triangles.items ++ t ∷ []
+    → now.starts.items ≡ before.starts.items ++ length before.steps.items ∷ [] → IsStepOn h steps (drop n now.steps.items) c before now
+step_on h [] n c t before now s l f e w a b = absurd (omega (arith, s))
+step_on h ((x, y) ∷ fs) n c t before now s l f e w a b =
     let g = f x y fs refl in
     let front : drop n now.steps.items ≡ closed x y c fs = ap (drop n) g ∙ drop_front before.steps.items (closed x y c fs) n l in
     record {
@@ -174,7 +237,28 @@ step_on h ((x, y) ∷ fs) n c t before now s l f e w a =
       words = w;
       all = a ∙ ap (λ u. before.triangles.items ++ u ∷ []) e;
       waiting = g ∙ ap (λ es. before.steps.items ++ es) (sym front);
+      starts = b;
     }
+
+rest_closed : (c : ℕ) (steps : List (ℕ × ℕ)) → 0 < length steps → closed (first_step steps).0 (first_step steps).1 c (rest_of steps) ≡ closed_with c steps
+rest_closed c [] s = absurd (omega (arith, s))
+rest_closed c ((x, y) ∷ fs) s = refl
+
+-- where the path kept what it came by, it does so after the step
+pub keeps_on : (h : Patch) (steps next : List (ℕ × ℕ)) (c : ℕ) (before now : Path) → IsStepOn h steps next c before now → (root : List (ℕ × ℕ)) (r : List ℕ) → Keeps root r before → steps ≡ waiting_after root r
+    → Keeps root (c ∷ r) now × (next ≡ waiting_after root (c ∷ r))
+keeps_on h steps next c before now k root r m e =
+    let f : next ≡ closed_with c (waiting_after root r) = k.front ∙ rest_closed c steps k.some ∙ ap (closed_with c) e in
+    let t : written (first_step steps).0 (first_step steps).1 c ≡ closing c (waiting_after root r) = sym (first_closed c steps) ∙ ap (closing c) e in (
+      record {
+        word = k.words ∙ ap (λ w. w ++ c ∷ []) m.word;
+        all = k.all ∙ (λ i. m.all i ++ t i ∷ []);
+        waiting = k.waiting ∙ (λ i. m.waiting i ++ f i);
+        starts = k.starts ∙ (λ i. m.starts i ++ length (m.waiting i) ∷ []);
+        closes = ((let P : List (ℕ × ℕ) → Type 0 = λ es. 0 < length es in subst P e k.some), m.closes);
+      },
+      f,
+    )
 
 pub step_part : (h : Patch) (steps next : List (ℕ × ℕ)) (c : ℕ) (t : Triangle) (before now : Path) → IsStepOn h steps next c before now
     → t ≡ written (first_step steps).0 (first_step steps).1 c → IsPart h (before.triangles.items ++ t ∷ []) → IsPart h now.triangles.items
@@ -201,6 +285,7 @@ step_found h ((x, y) ∷ fs) next limit c before now after k l a = record {
       (carried (λ us es. IsFirst h us es (BeginsAfter None) a.word a.triangles) now.triangles.items (before.triangles.items ++ written x y c ∷ []) next (closed x y c fs) k.all k.front a.is);
   words = words_on before.word.items a.word after.word.items now.word.items c k.words a.words;
   all = triangles_on before.triangles.items a.triangles after.triangles.items now.triangles.items (written x y c) k.all a.all;
+  kept = λ root r m e. let n = keeps_on h ((x, y) ∷ fs) next c before now k root r m e in a.kept root (c ∷ r) n.0 n.1;
 }
 
 -- the last step is taken back, and all but n of the waiting steps
@@ -208,6 +293,7 @@ pub record IsBack (n : ℕ) (now after : Path) : Type 0 where
   pub word : (word : List ℕ) (c : ℕ) → now.word.items ≡ word ++ c ∷ [] → after.word.items ≡ word
   pub triangles : (ts : List Triangle) (t : Triangle) → now.triangles.items ≡ ts ++ t ∷ [] → after.triangles.items ≡ ts
   pub steps : after.steps.items ≡ take n now.steps.items
+  pub starts : (ss : List ℕ) (s : ℕ) → now.starts.items ≡ ss ++ s ∷ [] → after.starts.items ≡ ss
 
 back_steps : (h : Patch) (steps next : List (ℕ × ℕ)) (c n : ℕ) (before now later after : Path) → IsStepOn h steps next c before now → n ≡ length before.steps.items → later.steps.items ≡ now.steps.items
     → IsBack n later after → after.steps.items ≡ before.steps.items
@@ -222,102 +308,7 @@ step_none h ((x, y) ∷ fs) next limit c n before now later after k l a b = reco
   words = b.word before.word.items c (a.words ∙ k.words);
   all = b.triangles before.triangles.items (written x y c) (a.all ∙ k.all);
   waiting = back_steps h ((x, y) ∷ fs) next c n before now later after k l a.waiting b;
-}
-
--- ---- after the last word
-
-pub last_empty : (h : Patch) (steps : List (ℕ × ℕ)) (last : List ℕ) (before : Path) → true ≡ (length last == 0) → ((us : List Triangle) × Completes h before.triangles.items steps last us)
-    → AddsNone h steps (IsBelow last) before before
-last_empty h steps [] before e k = record { none = empty_last h before.triangles.items steps k.0 k.1; words = refl; all = refl; waiting = refl }
-last_empty h steps (c ∷ last) before e k = absurd (let n = none_long (length (c ∷ last)) e in omega arith)
-
-abbrev pub first_number : List ℕ → ℕ
-first_number last = get_or last 0 0
-
-abbrev pub rest_numbers : List ℕ → List ℕ
-rest_numbers [] = []
-rest_numbers (c ∷ last) = last
-
--- where a word goes on, a step waits
-pub last_some : (h : Patch) (ts : List Triangle) (steps : List (ℕ × ℕ)) (last : List ℕ) (us : List Triangle) → 0 < length last → Completes h ts steps last us → 0 < length steps
-last_some h ts steps [] us s k = absurd (omega (arith, s))
-last_some h ts [] (c ∷ last) us s k = absurd k.closes
-last_some h ts (e ∷ steps) (c ∷ last) us s k = omega arith
-
--- the next triangle fits, and its point is one of the face
-pub last_fits : (h : Patch) (ts : List Triangle) (steps : List (ℕ × ℕ)) (last : List ℕ) (us : List Triangle) → 0 < length last → Completes h ts steps last us
-    → IsPart h (ts ++ written (first_step steps).0 (first_step steps).1 (first_number last) ∷ [])
-last_fits h ts steps [] us s k = absurd (omega (arith, s))
-last_fits h ts [] (c ∷ last) us s k = absurd k.closes
-last_fits h ts ((a, b) ∷ fs) (c ∷ last) us s k = completes_fits h ts a b c fs last us k
-
-pub last_point : (h : Patch) (ts : List Triangle) (steps : List (ℕ × ℕ)) (last : List ℕ) (us : List Triangle) → 0 < length last → Completes h ts steps last us → IsOf h (first_number last)
-last_point h ts steps last us s k = (fits_unit h ts (first_step steps).0 (first_step steps).1 (first_number last) (last_fits h ts steps last us s k)).points.2
-
-pub step_last : (h : Patch) (steps next : List (ℕ × ℕ)) (last : List ℕ) (before now : Path) → 0 < length last → IsStepOn h steps next (first_number last) before now
-    → ((us : List Triangle) × Completes h before.triangles.items steps last us) → (us : List Triangle) × Completes h now.triangles.items next (rest_numbers last) us
-step_last h steps next [] before now s k l = absurd (omega (arith, s))
-step_last h [] next (c ∷ last) before now s k l = absurd l.1.closes
-step_last h ((a, b) ∷ fs) next (c ∷ last) before now s k (us, l) = by us l
-  where
-    by : (us : List Triangle) → Completes h before.triangles.items ((a, b) ∷ fs) (c ∷ last) us → (vs : List Triangle) × Completes h now.triangles.items next last vs
-    by [] m = absurd m.closes
-    by (u ∷ vs) m =
-        (vs, carried (λ ws es. Completes h ws es last vs) (before.triangles.items ++ written a b c ∷ []) now.triangles.items (closed a b c fs) next (sym k.all) (sym k.front) (completes_rest h before.triangles.items a b c fs last u vs m))
-
-pub next_step_found : (h : Patch) (steps next : List (ℕ × ℕ)) (last : List ℕ) (before now after : Path) → 0 < length last → IsStepOn h steps next (first_number last) before now
-    → Adds h next (IsBelow (rest_numbers last)) now after → Adds h steps (IsBelow last) before after
-next_step_found h steps next [] before now after s k a = absurd (omega (arith, s))
-next_step_found h [] next (c ∷ last) before now after s k a = absurd (let s = k.some in omega arith)
-next_step_found h ((x, y) ∷ fs) next (c ∷ last) before now after s k a = record {
-  word = c ∷ a.word;
-  triangles = written x y c ∷ a.triangles;
-  is = next_found h before.triangles.items x y c fs last a.word a.triangles
-      (carried (λ us es. IsFirst h us es (IsBelow last) a.word a.triangles) now.triangles.items (before.triangles.items ++ written x y c ∷ []) next (closed x y c fs) k.all k.front a.is);
-  words = words_on before.word.items a.word after.word.items now.word.items c k.words a.words;
-  all = triangles_on before.triangles.items a.triangles after.triangles.items now.triangles.items (written x y c) k.all a.all;
-}
-
--- after the words below the first number there are those after it
-pub record IsPassed (h : Patch) (steps : List (ℕ × ℕ)) (last : List ℕ) (before now : Path) : Type 0 where
-  pub words : now.word.items ≡ before.word.items
-  pub all : now.triangles.items ≡ before.triangles.items
-  pub waiting : now.steps.items ≡ before.steps.items
-  pub found : (w : List ℕ) (us : List Triangle) → IsFirst h before.triangles.items steps (BeginsAfter (Some (first_number last))) w us → IsFirst h before.triangles.items steps (IsBelow last) w us
-  pub none : HasNone h before.triangles.items steps (BeginsAfter (Some (first_number last))) → HasNone h before.triangles.items steps (IsBelow last)
-
-pub next_step_passed : (h : Patch) (steps next : List (ℕ × ℕ)) (last : List ℕ) (n : ℕ) (before now later after : Path) → 0 < length last → IsStepOn h steps next (first_number last) before now
-    → n ≡ length before.steps.items → AddsNone h next (IsBelow (rest_numbers last)) now later → IsBack n later after → IsPassed h steps last before after
-next_step_passed h steps next [] n before now later after s k l a b = absurd (omega (arith, s))
-next_step_passed h [] next (c ∷ last) n before now later after s k l a b = absurd (let s = k.some in omega arith)
-next_step_passed h ((x, y) ∷ fs) next (c ∷ last) n before now later after s k l a b =
-    let no : HasNone h (before.triangles.items ++ written x y c ∷ []) (closed x y c fs) (IsBelow last) =
-    carried (λ us es. HasNone h us es (IsBelow last)) now.triangles.items (before.triangles.items ++ written x y c ∷ []) next (closed x y c fs) k.all k.front a.none in
-    record {
-      words = b.word before.word.items c (a.words ∙ k.words);
-      all = b.triangles before.triangles.items (written x y c) (a.all ∙ k.all);
-      waiting = back_steps h ((x, y) ∷ fs) next c n before now later after k l a.waiting b;
-      found = λ w us f. next_later h before.triangles.items x y c fs last w us no f;
-      none = λ m. next_none h before.triangles.items x y c fs last no m;
-    }
-
--- the answer of the search after the first number
-pub passed_answer : (h : Patch) (steps es : List (ℕ × ℕ)) (last : List ℕ) (before now after : Path) (found : Bool) → es ≡ steps → IsPassed h steps last before now
-    → MatchBool found (Adds h es (BeginsAfter (Some (first_number last))) now after) (AddsNone h es (BeginsAfter (Some (first_number last))) now after)
-    → MatchBool found (Adds h steps (IsBelow last) before after) (AddsNone h steps (IsBelow last) before after)
-passed_answer h steps es last before now after true e p a = record {
-  word = a.word;
-  triangles = a.triangles;
-  is = p.found a.word a.triangles
-      (carried (λ us fs. IsFirst h us fs (BeginsAfter (Some (first_number last))) a.word a.triangles) now.triangles.items before.triangles.items es steps p.all e a.is);
-  words = a.words ∙ ap (λ w. w ++ a.word) p.words;
-  all = a.all ∙ ap (λ us. us ++ a.triangles) p.all;
-}
-passed_answer h steps es last before now after false e p a = record {
-  none = p.none (carried (λ us fs. HasNone h us fs (BeginsAfter (Some (first_number last)))) now.triangles.items before.triangles.items es steps p.all e a.none);
-  words = a.words ∙ p.words;
-  all = a.all ∙ p.all;
-  waiting = a.waiting ∙ p.waiting;
+  starts = b.starts before.starts.items (length before.steps.items) (a.starts ∙ k.starts);
 }
 
 -- there is room for fewer triangles after one more
@@ -330,17 +321,3 @@ room_falls m us vs t e l = by (length us) (length vs) (ap length e ∙ one_more 
 
     by : (x y : ℕ) → y ≡ x + 1 → y ≤ m → 2 * (m - y) + 1 < 2 * (m - x)
     by x y p q = omega (arith, p, q)
-
-pub rest_is : (last : List ℕ) → take (length last - 1) (drop 1 last) ≡ rest_numbers last
-rest_is [] = refl
-rest_is (c ∷ last) = take_all (length (c ∷ last) - 1) last (omega arith)
-
-pub length_rest : (last : List ℕ) → 0 < length last → length (take (length last - 1) (drop 1 last)) < length last
-length_rest [] l = absurd (omega (arith, l))
-length_rest (c ∷ last) l = let e = ap length (rest_is (c ∷ last)) in omega arith
-
-pub left_within : (steps : List (ℕ × ℕ)) (n : ℕ) → 0 < length (drop n steps) → n < length steps
-left_within [] zero l = absurd (omega (arith, l))
-left_within [] (suc n) l = absurd (omega (arith, l))
-left_within (x ∷ steps) zero l = omega arith
-left_within (x ∷ steps) (suc n) l = let r = left_within steps n l in omega arith

@@ -3,6 +3,8 @@ pub mod Parts
 pub mod Bound
 pub mod Searches
 pub mod Finding
+pub mod Going
+pub mod TableLemmas
 pub mod Waiting
 pub mod Numbers
 pub mod Standing

@@ -107,7 +107,7 @@ from_end h n us t e = record {
       subst P (sym (ap (λ k. drop k us) e ∙ drop-length us)) (All-from_contains (λ u. AreCompatible h u t) [] (λ u k. Contains-none u k));
 }
 
-one_before : (us : List Triangle) (n : ℕ) (d : Triangle) → n < length us → drop n us ≡ get_or us n d ∷ drop (suc n) us
+pub one_before : {X : Type 0} (us : List X) (n : ℕ) (d : X) → n < length us → drop n us ≡ get_or us n d ∷ drop (suc n) us
 one_before [] n d l = absurd (omega (arith, l))
 one_before (u ∷ us) zero d l = refl
 one_before (u ∷ us) (suc n) d l = one_before us n d (omega arith)

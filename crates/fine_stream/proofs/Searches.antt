@@ -8,7 +8,7 @@ use Rattle.std.specs.Cmp.{ranked}
 use Rattle.std.specs.Cmp.Lexicographic.{slice_cmp}
 use Rattle.std.proofs.lemmas.List.Elements.{All-contains}
 use Rattle.ntfe_model.specs.Lists.{IsBelow}
-use Rattle.ntfe_model.specs.Charts.{Patch, IsOf, IsUnit, spot_numbers}
+use Rattle.ntfe_model.specs.Charts.{Patch, IsOf, IsUnit}
 use Rattle.ntfe_model.specs.Words.{after_side, written}
 use Rattle.ntfe_model.specs.declared.triangle.Triangle.{Triangle}
 use Rattle.ntfe_model.proofs.Listings.{Contains-here, Contains-there, Contains-cases, Contains-none, AllPairs-head, AllPairs-tail, All-from_contains}
@@ -165,12 +165,6 @@ module _ (h : Patch) (ts : List Triangle) (a b c : ℕ) (fs : List (ℕ × ℕ))
   next_none l n m (d ∷ v) (u ∷ vs) k p =
       ⊎_elim (λ q. m (d ∷ v) (u ∷ vs) k q) (λ q. n v vs (rest_with d v u vs (sym q.0) k) q.1) (below_cons c d l v p)
 
--- where the last word is empty, nothing waits, and no word comes after it
-pub empty_last : (h : Patch) (ts : List Triangle) (steps : List (ℕ × ℕ)) (us : List Triangle) → Completes h ts steps [] us → HasNone h ts steps (IsBelow [])
-empty_last h ts [] us k [] vs m p = below_empty [] p
-empty_last h ts [] us k (c ∷ v) vs m p = absurd m.closes
-empty_last h ts ((a, b) ∷ fs) us k v vs m p = absurd k.closes
-
 -- ---- all numbers in turn
 
 lower_taken : (ks : List ℕ) (i d : ℕ) → AllPairs (λ j k. j < k) ks → i < length ks → Contains ks d → d < get_or ks i 0 → Contains (take i ks) d
@@ -181,14 +175,14 @@ lower_taken (x ∷ xs) (suc i) d o l k m =
     let go = lower_taken xs i d (AllPairs-tail (λ j z. j < z) x xs o) (omega arith) in
     ⊎_elim (λ e. Contains-here d x (take i xs) e) (λ n. Contains-there d x (take i xs) (go n m)) (Contains-cases d x xs k)
 
-number_of : (h : Patch) (ts : List Triangle) (a b d : ℕ) (fs : List (ℕ × ℕ)) (v : List ℕ) (vs : List Triangle) → Completes h ts ((a, b) ∷ fs) (d ∷ v) vs → IsOf h d
-number_of h ts a b d fs v vs k = (fits_unit h ts a b d (completes_fits h ts a b d fs v vs k)).points.2
+unit_of : (h : Patch) (ts : List Triangle) (a b d : ℕ) (fs : List (ℕ × ℕ)) (v : List ℕ) (vs : List Triangle) → Completes h ts ((a, b) ∷ fs) (d ∷ v) vs → IsUnit h a b d
+unit_of h ts a b d fs v vs k = fits_unit h ts a b d (completes_fits h ts a b d fs v vs k)
 
 pub turn_found : (h : Patch) (ts : List Triangle) (a b : ℕ) (fs : List (ℕ × ℕ)) (limit : Option ℕ) (ks : List ℕ) (i c : ℕ) (w : List ℕ) (us : List Triangle)
-    → ks ≡ spot_numbers h → AllPairs (λ j k. j < k) ks → i < length ks → c ≡ get_or ks i 0
+    → ((d : ℕ) → IsUnit h a b d → Contains ks d) → AllPairs (λ j k. j < k) ks → i < length ks → c ≡ get_or ks i 0
     → All (λ d. HasNone h ts ((a, b) ∷ fs) (BeginsWith limit d)) (take i ks)
     → IsFirst h ts ((a, b) ∷ fs) (BeginsWith limit c) w us → IsFirst h ts ((a, b) ∷ fs) (BeginsAfter limit) w us
-turn_found h ts a b fs limit ks i c w us same o l e none f = record { completes = f.completes; has = has w f.has; first = first }
+turn_found h ts a b fs limit ks i c w us complete o l e none f = record { completes = f.completes; has = has w f.has; first = first }
   where
     has : (x : List ℕ) → BeginsWith limit c x → BeginsAfter limit x
     has [] p = absurd p
@@ -196,8 +190,7 @@ turn_found h ts a b fs limit ks i c w us same o l e none f = record { completes 
 
     lower : (d : ℕ) (v : List ℕ) (vs : List Triangle) → Completes h ts ((a, b) ∷ fs) (d ∷ v) vs → IsAfter limit d → d < c → ⊥
     lower d v vs k p q =
-        let P : List ℕ → Type 0 = λ zs. Contains zs d in
-        let m = subst P (sym same) (number_of h ts a b d fs v vs k) in
+        let m = complete d (unit_of h ts a b d fs v vs k) in
         let r : d < get_or ks i 0 = (let R : ℕ → Type 0 = λ z. d < z in subst R e q) in
         All-contains (λ z. HasNone h ts ((a, b) ∷ fs) (BeginsWith limit z)) (take i ks) d none (lower_taken ks i d o l m r) (d ∷ v) vs k (refl, p)
 
@@ -210,12 +203,11 @@ turn_found h ts a b fs limit ks i c w us same o l e none f = record { completes 
     first [] vs k p q = absurd k.closes
     first (d ∷ v) vs k p q = let r = by w f.has d v q in ⊎_elim (λ n. lower d v vs k p n) (λ n. f.first (d ∷ v) vs k (n, r.1) q) r.0
 
-pub turn_none : (h : Patch) (ts : List Triangle) (a b : ℕ) (fs : List (ℕ × ℕ)) (limit : Option ℕ) (ks : List ℕ) → ks ≡ spot_numbers h
+pub turn_none : (h : Patch) (ts : List Triangle) (a b : ℕ) (fs : List (ℕ × ℕ)) (limit : Option ℕ) (ks : List ℕ) → ((d : ℕ) → IsUnit h a b d → Contains ks d)
     → All (λ d. HasNone h ts ((a, b) ∷ fs) (BeginsWith limit d)) ks → HasNone h ts ((a, b) ∷ fs) (BeginsAfter limit)
-turn_none h ts a b fs limit ks same none [] vs k p = absurd k.closes
-turn_none h ts a b fs limit ks same none (d ∷ v) vs k p =
-    let P : List ℕ → Type 0 = λ zs. Contains zs d in
-    All-contains (λ z. HasNone h ts ((a, b) ∷ fs) (BeginsWith limit z)) ks d none (subst P (sym same) (number_of h ts a b d fs v vs k)) (d ∷ v) vs k (refl, p)
+turn_none h ts a b fs limit ks complete none [] vs k p = absurd k.closes
+turn_none h ts a b fs limit ks complete none (d ∷ v) vs k p =
+    All-contains (λ z. HasNone h ts ((a, b) ∷ fs) (BeginsWith limit z)) ks d none (complete d (unit_of h ts a b d fs v vs k)) (d ∷ v) vs k (refl, p)
 
 -- a number that does not fit, or does not come after the limit
 pub none_fitting : (h : Patch) (ts : List Triangle) (a b c : ℕ) (fs : List (ℕ × ℕ)) (limit : Option ℕ) → ¬ (IsPart h (ts ++ written a b c ∷ [])) → HasNone h ts ((a, b) ∷ fs) (BeginsWith limit c)

@@ -4,6 +4,7 @@ use Rattle.ntfe_model.specs.Lists.{IsBelow}
 use Rattle.ntfe_model.specs.Charts.{Patch}
 use Rattle.ntfe_model.specs.declared.triangle.Triangle.{Triangle}
 use Rattle.fine_stream.specs.Paths.{Completes}
+use Rattle.fine_stream.specs.Kept.{waiting_after, Keeps}
 use Rattle.fine_stream.specs.declared.path.Path.{Path}
 
 -- the number comes after the limit, if there is one
@@ -38,6 +39,7 @@ pub record Adds (h : Patch) (steps : List (ℕ × ℕ)) (P : List ℕ → Type 0
   pub is : IsFirst h before.triangles.items steps P word triangles
   pub words : after.word.items ≡ before.word.items ++ word
   pub all : after.triangles.items ≡ before.triangles.items ++ triangles
+  pub kept : (root : List (ℕ × ℕ)) (r : List ℕ) → Keeps root r before → steps ≡ waiting_after root r → (v : List ℕ) × Keeps root v after
 
 -- there is no word, and the path with its steps is as before
 pub record AddsNone (h : Patch) (steps : List (ℕ × ℕ)) (P : List ℕ → Type 0) (before after : Path) : Type 0 where
@@ -45,3 +47,4 @@ pub record AddsNone (h : Patch) (steps : List (ℕ × ℕ)) (P : List ℕ → Ty
   pub words : after.word.items ≡ before.word.items
   pub all : after.triangles.items ≡ before.triangles.items
   pub waiting : after.steps.items ≡ before.steps.items
+  pub starts : after.starts.items ≡ before.starts.items

@@ -10,6 +10,8 @@ mod row;
 mod search;
 mod sides;
 mod stream;
+mod tables;
+mod walk;
 
 pub use own_book::OwnBook;
 pub use position::Position;

@@ -1,9 +1,11 @@
 //! Sides that cannot stand together.
-ghost use Rattle.std.specs.Prelude.{◌≡◌, ℕ, ◌++◌, ◌∷◌, [], true, false};
+ghost use Rattle.std.specs.Prelude.{◌≡◌, ℕ, ◌++◌, ◌∷◌, [], List, true, false};
 ghost use Rattle.ntfe_model.specs.Charts.{AreApart};
 ghost use Rattle.fine_stream.specs.Paths.{AreOpposite, IsUnitSide, IsBeyond, AreInConflict, AreCompatible, IsPart};
 ghost use Rattle.ntfe_model.specs.Charts.{IsOf, IsUnit, turn};
 ghost use Rattle.ntfe_model.specs.Triangulations.{HasSide};
+ghost use Rattle.ntfe_model.specs.declared.triangle.Triangle.{Triangle as AsTriangle};
+ghost use Rattle.fine_stream.specs.Places.{IsPlaceOf, ArePlaces, TellsConflicts};
 
 use face_chart::Chart;
 use ntfe_model::Triangle;
@@ -102,7 +104,7 @@ fn is_beyond_side(chart: &Chart, t: &Triangle, u: &Triangle) -> bool
 }
 
 /// Whether no side of one triangle is in conflict with a side of the other.
-fn are_compatible(chart: &Chart, t: &Triangle, u: &Triangle) -> bool
+pub fn are_compatible(chart: &Chart, t: &Triangle, u: &Triangle) -> bool
     requires apart { AreApart chart.now }
     requires first { IsUnit chart.now t.now.a t.now.b t.now.c }
     requires second { IsUnit chart.now u.now.a u.now.b u.now.c }
@@ -124,11 +126,35 @@ fn are_compatible(chart: &Chart, t: &Triangle, u: &Triangle) -> bool
     !has_conflict(chart, t.c, t.a, u)
 }
 
-/// Whether a triangle of points of the face can stand with the triangles.
-pub fn fits(chart: &Chart, triangles: &[Triangle], t: &Triangle) -> bool
+/// Whether no side of u is in conflict with a side of t. The row tells it for the first places of a table;
+/// u stands there at this place, if it does.
+fn stands_with(chart: &Chart, row: &[bool], place: usize, u: &Triangle, t: &Triangle) -> bool
+    requires apart { AreApart chart.now }
+    requires first { IsUnit chart.now u.now.a u.now.b u.now.c }
+    requires second { IsUnit chart.now t.now.a t.now.b t.now.c }
+    requires row { (triples : List AsTriangle) × TellsConflicts chart.now triples t.now row.now × IsPlaceOf triples place u.now }
+    ensures when_true { result ≡ true → AreCompatible chart.now u.now t.now }
+    ensures when_false { result ≡ false → ¬ (AreCompatible chart.now u.now t.now) }
+{
+    match row.get(place) {
+        Some(conflict) => !*conflict,
+        None => are_compatible(chart, u, t),
+    }
+}
+
+/// Whether a triangle of points of the face can stand with the triangles. The row tells of its conflicts with
+/// the first places of a table; these are the places of the triangles there.
+pub fn fits(
+    chart: &Chart,
+    row: &[bool],
+    triangles: &[Triangle],
+    places: &[usize],
+    t: &Triangle,
+) -> bool
     requires apart { AreApart chart.now }
     requires points { IsOf chart.now t.now.a × IsOf chart.now t.now.b × IsOf chart.now t.now.c }
     requires part { IsPart chart.now triangles.now }
+    requires row { (triples : List AsTriangle) × TellsConflicts chart.now triples t.now row.now × ArePlaces triples places.now triangles.now }
     ensures when_true { result ≡ true → IsPart chart.now (triangles.now ++ t.now ∷ []) }
     ensures when_false { result ≡ false → ¬ (IsPart chart.now (triangles.now ++ t.now ∷ [])) }
 {
@@ -139,7 +165,7 @@ pub fn fits(chart: &Chart, triangles: &[Triangle], t: &Triangle) -> bool
     let mut left = triangles.len();
     while left > 0 {
         left -= 1;
-        if !are_compatible(chart, &triangles[left], t) {
+        if !stands_with(chart, row, places[left], &triangles[left], t) {
             return false;
         }
     }

@@ -15,7 +15,7 @@ pub struct Extent {
 
 impl Extent {
     /// How many numbers there are.
-    fn side(&self) -> u64
+    pub fn side(&self) -> u64
         requires { IsSmallExtent self.now }
         ensures value { pos result ≡ side_of_extent self.now }
         ensures most { result ≤ 2047 }

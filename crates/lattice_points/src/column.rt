@@ -1,11 +1,14 @@
 //! The part of a column that lies in the polytope.
-ghost use Rattle.std.specs.Prelude.{◌≡◌, ℤ, pos, negsuc, ◌+ℤ◌, ◌*ℤ◌, ◌≤ℤ◌, ◌<ℤ◌, ◌≤◌, ◌^◌, ◌↔◌, [], ◌∷◌, length, All};
+ghost use Rattle.std.specs.Prelude.{◌≡◌, ℤ, pos, negsuc, ◌+ℤ◌, ◌*ℤ◌, ◌≤ℤ◌, ◌<ℤ◌, ◌≤◌, ◌^◌, ◌↔◌, [], ◌∷◌, List, length, All};
 ghost use Rattle.ntfe_nums.specs.Sizes.{AreWithin};
 ghost use Rattle.ntfe_model.specs.Pairs.{IsSmall};
 ghost use Rattle.lattice_points.specs.Boxes.{IsWithin};
 ghost use Rattle.lattice_points.specs.Lines.{place, KeepsSums, IsOpen};
+ghost use Rattle.lattice_points.specs.Shadows.{IsShadow};
+ghost use Rattle.ntfe_nums.specs.Vectors.{Vector};
 
 use crate::bounds::Extent;
+use crate::shadow::Shadow;
 use ntfe_model::Vec4;
 
 const EMPTY: Extent = Extent { low: 1, high: 0 };
@@ -76,6 +79,22 @@ fn cut(left: Extent, slope: i64, level: i64) -> Extent
     } else {
         cut_below(left, slope, level)
     }
+}
+
+/// The numbers of an extent for the third coordinate that the sums leave, where these are the first two.
+pub fn third_extent(shadows: &[Shadow], x1: i64, x2: i64, extent: Extent) -> Extent
+    requires shadows { (ms : List Vector) × All (IsShadow ms) shadows.now }
+    requires size { AreWithin 1023 (x1 ∷ x2 ∷ []) }
+    requires extent { AreWithin (2 ^ 23) (extent.low ∷ extent.high ∷ []) }
+    ensures inside { (ms : List Vector) (x : Vector) → All (IsShadow ms) shadows.now → IsOpen ms x → x.x1 ≡ x1 → x.x2 ≡ x2 → IsWithin extent x.x3 → IsWithin result x.x3 }
+    ensures within { (z : ℤ) → IsWithin result z → IsWithin extent z }
+    ensures size { AreWithin (2 ^ 23) (result.low ∷ result.high ∷ []) }
+{
+    let mut left = extent;
+    for shadow in shadows {
+        left = cut(left, shadow.c3, shadow.level(x1, x2));
+    }
+    left
 }
 
 impl Line {

@@ -6,6 +6,7 @@ mod column;
 mod fault;
 mod found;
 mod scan;
+mod shadow;
 #[cfg(test)]
 mod tests;
 mod tight;

@@ -1,22 +1,28 @@
 //! The way through the columns of the bounding box.
-ghost use Rattle.std.specs.Prelude.{◌≡◌, ℤ, ◌+◌, ◌≤◌, ◌^◌, ◌↔◌, [], ◌∷◌, length, IfOk, IfErr, OnOk};
+ghost use Rattle.std.specs.Prelude.{◌≡◌, ℤ, ◌+◌, ◌≤◌, ◌^◌, ◌↔◌, [], ◌∷◌, length, All, IfOk, IfErr, OnOk};
 ghost use Rattle.ntfe_nums.specs.Sizes.{AreWithin};
+ghost use Rattle.ntfe_nums.specs.Vectors.{Vector};
 ghost use Rattle.ntfe_model.specs.Pairs.{IsBounded};
 ghost use Rattle.ntfe_model.specs.Points.{IsInside, ArePoints};
 ghost use Rattle.lattice_points.specs.Boxes.{IsWithin, AreBoundsOf};
 ghost use Rattle.lattice_points.specs.Faults.{HasFewColumns, HasCause};
 ghost use Rattle.lattice_points.specs.Lines.{place};
+ghost use Rattle.lattice_points.specs.Shadows.{IsShadow};
 ghost use Rattle.lattice_points.specs.Scans.{Adds, IsAnywhere, IsOnPlane, IsOnLine, IsInColumn};
 
 use crate::bounds::{Bounds, Extent};
-use crate::column::Line;
+use crate::column::{Line, third_extent};
 use crate::fault::PointFault;
 use crate::found::Found;
+use crate::shadow::{Shadow, shadows_of};
 use ntfe_model::{List, Pair, Point, Vec4};
 use std::alloc::{AllocError, Global};
 
 /// The most columns that are gone through.
 const COLUMN_LIMIT: u64 = 16_777_216;
+
+/// The most sums of two inequalities that are used.
+const MOST_SHADOWS: usize = 64;
 
 /// Looks at each place of one column that is in the polytope.
 fn scan_column(
@@ -41,16 +47,48 @@ fn scan_column(
     Ok(())
 }
 
-/// Goes through the columns of one line.
-fn scan_line(
+/// Goes through the columns of one line whose third coordinate is in the extent.
+fn scan_columns(
     alloc: Global,
     pair: &Pair,
     bounds: &Bounds,
     x1: i64,
     x2: i64,
+    extent: Extent,
     found: &mut Found,
 ) -> Result<(), AllocError>
     requires bounded { IsBounded pair.now }
+    requires bounds { AreBoundsOf pair.now.vertices bounds.now }
+    requires first { IsWithin bounds.now.x1 x1 }
+    requires second { IsWithin bounds.now.x2 x2 }
+    requires all { (v : Vector) → IsInside pair.now v → IsOnLine x1 x2 v → IsWithin extent v.x3 }
+    requires within { (x3 : ℤ) → IsWithin extent x3 → IsWithin bounds.now.x3 x3 }
+    requires size { AreWithin (2 ^ 23) (extent.low ∷ extent.high ∷ []) }
+    requires room { found.old.count ≤ 2 ^ 60 }
+    ensures adds { OnOk result (Adds pair.now (IsOnLine x1 x2) found.old found.new) }
+    ensures most { OnOk result (found.new.count ≤ found.old.count + 2 ^ 22) }
+{
+    let dual = pair.dual();
+    let line = Line::new(dual, x1, x2);
+    for x3 in extent.low..extent.high + 1 {
+        let inside = line.interval(dual, x3, bounds.x4);
+        scan_column(alloc, pair, x1, x2, x3, inside, found)?;
+    }
+    Ok(())
+}
+
+/// Goes through the columns of one line that the sums of inequalities leave.
+fn scan_line(
+    alloc: Global,
+    pair: &Pair,
+    bounds: &Bounds,
+    shadows: &[Shadow],
+    x1: i64,
+    x2: i64,
+    found: &mut Found,
+) -> Result<(), AllocError>
+    requires bounded { IsBounded pair.now }
+    requires shadows { All (IsShadow pair.now.dual) shadows.now }
     requires bounds { AreBoundsOf pair.now.vertices bounds.now }
     requires first { IsWithin bounds.now.x1 x1 }
     requires second { IsWithin bounds.now.x2 x2 }
@@ -58,13 +96,8 @@ fn scan_line(
     ensures adds { OnOk result (Adds pair.now (IsOnLine x1 x2) found.old found.new) }
     ensures most { OnOk result (found.new.count ≤ found.old.count + 2 ^ 22) }
 {
-    let dual = pair.dual();
-    let line = Line::new(dual, x1, x2);
-    for x3 in bounds.x3.low..bounds.x3.high + 1 {
-        let inside = line.interval(dual, x3, bounds.x4);
-        scan_column(alloc, pair, x1, x2, x3, inside, found)?;
-    }
-    Ok(())
+    let extent = third_extent(shadows, x1, x2, bounds.x3);
+    scan_columns(alloc, pair, bounds, x1, x2, extent, found)
 }
 
 /// Goes through the lines of one plane.
@@ -72,10 +105,12 @@ fn scan_plane(
     alloc: Global,
     pair: &Pair,
     bounds: &Bounds,
+    shadows: &[Shadow],
     x1: i64,
     found: &mut Found,
 ) -> Result<(), AllocError>
     requires bounded { IsBounded pair.now }
+    requires shadows { All (IsShadow pair.now.dual) shadows.now }
     requires bounds { AreBoundsOf pair.now.vertices bounds.now }
     requires first { IsWithin bounds.now.x1 x1 }
     requires room { found.old.count ≤ 2 ^ 59 }
@@ -83,13 +118,33 @@ fn scan_plane(
     ensures most { OnOk result (found.new.count ≤ found.old.count + 2 ^ 33) }
 {
     for x2 in bounds.x2.low..bounds.x2.high + 1 {
-        scan_line(alloc, pair, bounds, x1, x2, found)?;
+        scan_line(alloc, pair, bounds, shadows, x1, x2, found)?;
     }
     Ok(())
 }
 
 /// Goes through the planes of the box.
 fn scan_box(
+    alloc: Global,
+    pair: &Pair,
+    bounds: &Bounds,
+    shadows: &[Shadow],
+    found: &mut Found,
+) -> Result<(), AllocError>
+    requires bounded { IsBounded pair.now }
+    requires shadows { All (IsShadow pair.now.dual) shadows.now }
+    requires bounds { AreBoundsOf pair.now.vertices bounds.now }
+    requires room { found.old.count ≤ 2 ^ 58 }
+    ensures { OnOk result (Adds pair.now IsAnywhere found.old found.new) }
+{
+    for x1 in bounds.x1.low..bounds.x1.high + 1 {
+        scan_plane(alloc, pair, bounds, shadows, x1, found)?;
+    }
+    Ok(())
+}
+
+/// Goes through the box, with at most as many sums of inequalities as a line has columns.
+fn scan_all(
     alloc: Global,
     pair: &Pair,
     bounds: &Bounds,
@@ -100,10 +155,12 @@ fn scan_box(
     requires room { found.old.count ≤ 2 ^ 58 }
     ensures { OnOk result (Adds pair.now IsAnywhere found.old found.new) }
 {
-    for x1 in bounds.x1.low..bounds.x1.high + 1 {
-        scan_plane(alloc, pair, bounds, x1, found)?;
-    }
-    Ok(())
+    let shadows = shadows_of(
+        alloc,
+        pair.dual(),
+        MOST_SHADOWS.min(bounds.x3.side() as usize),
+    )?;
+    scan_box(alloc, pair, bounds, shadows.as_slice(), found)
 }
 
 /// The lattice points of the polytope that are tight on at least two dual vertices, in order of
@@ -124,6 +181,6 @@ pub fn points(alloc: Global, pair: &Pair) -> Result<List<Point>, PointFault>
         return Err(PointFault::TooWide { columns });
     }
     let mut found = Found::new(alloc);
-    scan_box(alloc, pair, &bounds, &mut found).map_err(|_| PointFault::Memory)?;
+    scan_all(alloc, pair, &bounds, &mut found).map_err(|_| PointFault::Memory)?;
     found.finish()
 }

@@ -11,8 +11,8 @@ returns-then-columns-gt-COLUMN_LIMIT-clause-cause c =
 pub returns-clause-points : goal.returns-clause-points
 returns-clause-points c =
     let p = c.args.pair.now in
-    let a = from_ok (Adds p IsAnywhere c.new-found.result c.scan_box.new.found) c.scan_box.result c.scan_box.ensures c.in_ok-map_err.ensures.variant in
-    points_from p c.new-found.result c.scan_box.new.found a c.new-found.ensures.points c.new-found.ensures.count c.finish.result c.finish.ensures.points c.finish.ensures.few
+    let a = from_ok (Adds p IsAnywhere c.new-found.result c.scan_all.new.found) c.scan_all.result c.scan_all.ensures c.in_ok-map_err.ensures.variant in
+    points_from p c.new-found.result c.scan_all.new.found a c.new-found.ensures.points c.new-found.ensures.count c.finish.result c.finish.ensures.points c.finish.ensures.few
 
 pub returns-clause-narrow : goal.returns-clause-narrow
 returns-clause-narrow c = ok_from (HasFewColumns c.args.pair.now.vertices) c.finish.result
@@ -21,7 +21,7 @@ returns-clause-narrow c = ok_from (HasFewColumns c.args.pair.now.vertices) c.fin
 pub returns-clause-cause : goal.returns-clause-cause
 returns-clause-cause c =
     let p = c.args.pair.now in
-    let a = from_ok (Adds p IsAnywhere c.new-found.result c.scan_box.new.found) c.scan_box.result c.scan_box.ensures c.in_ok-map_err.ensures.variant in
-    cause_from p c.new-found.result c.scan_box.new.found a c.new-found.ensures.points c.new-found.ensures.count c.finish.result
+    let a = from_ok (Adds p IsAnywhere c.new-found.result c.scan_all.new.found) c.scan_all.result c.scan_all.ensures c.in_ok-map_err.ensures.variant in
+    cause_from p c.new-found.result c.scan_all.new.found a c.new-found.ensures.points c.new-found.ensures.count c.finish.result
     (few_columns p.vertices c.vertices.result.now c.of-bounds.result c.columns-columns.result c.vertices.ensures.value c.of-bounds.ensures c.columns-columns.ensures c.if-columns-gt-COLUMN_LIMIT.false)
     c.finish.ensures.cause c.finish.ensures.over
