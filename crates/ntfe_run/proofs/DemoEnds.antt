@@ -1,11 +1,10 @@
 -- From the counting of the demo's classes to what its status says.
-use Rattle.std.proofs.Common.{◌≡◌, ◌≢◌, refl, ap, inl, inr, arith, ℕ, ◌+◌, ◌-◌, ◌<◌, ◌≤◌, ◌^◌, min, max, ℤ, pos, ◌≤ℤ◌, List, [], length, Some, None, Result, Ok, Err}
+use Rattle.std.proofs.Common.{◌≡◌, ◌≢◌, refl, sym, subst, ap, inl, inr, arith, ℕ, ◌+◌, ◌-◌, ◌<◌, ◌≤◌, ◌^◌, min, max, ℤ, pos, ◌≤ℤ◌, List, [], length, Some, None, Result, Ok, Err}
 use Rattle.std.specs.Prelude.{Option, codes}
 use Rattle.std.proofs.lemmas.Int.{ints}
 use Rattle.std.proofs.KnownBytes.{Appends-nil}
 use Rattle.io_edge.specs.Changes.{Change}
 use Rattle.io_edge.specs.Lines.{WritesText}
-use Rattle.io_edge.proofs.Pieces.{prefix_none}
 use Rattle.io_edge.specs.declared.line_fault.LineFault.{LineFault}
 use Rattle.io_edge.specs.declared.line_fault.LineFault.TheVariants as line
 use Rattle.ntfe_model.specs.Pairs.{VertexLists}
@@ -15,17 +14,17 @@ use Rattle.polygon_demo.specs.Limits.{IsSmallPair}
 use Rattle.lattice_points.specs.Faults.{HasCause}
 use Rattle.lattice_points.specs.declared.fault.PointFault.{PointFault}
 use Rattle.lattice_points.specs.declared.fault.PointFault.TheVariants as point
-use Rattle.steal_workers.specs.Listings.{Listed, Bytes, TakesAll, TakesDue, TakesBelow, TakesPart}
-use Rattle.steal_workers.proofs.NextBlocks.{no_blocks}
+use Rattle.steal_workers.specs.Listings.{Listed, Bytes, TakesAll, TakesDue, TakesBelow, HasServed}
+use Rattle.steal_workers.specs.declared.served.Served.{Served}
+use Rattle.steal_workers.specs.declared.served.Served.TheVariants as served
 use Rattle.ntfe_run.specs.Demo.{IsDemoOf, IsDemoText, demo_listed, demo_limit, demo_text}
 use Rattle.ntfe_run.specs.Commands.{demo_room}
 use Rattle.ntfe_run.specs.Rooms.{IsAnswer, IsAnswered, IsReadInput}
 use Rattle.ntfe_run.specs.Edges.{Edges}
-use Rattle.ntfe_run.specs.Statuses.{status_of_lines, IsDemoEnd}
+use Rattle.ntfe_run.specs.Statuses.{status_of_lines, TellsCount, IsDemoEnd}
 use Rattle.ntfe_run.specs.declared.status.Status.{Status}
 use Rattle.ntfe_run.specs.declared.status.Status.TheVariants.{Done, Usage, Refused, Overflow, Limit, Memory, ReadFault, WriteFault}
-use Rattle.ntfe_run.proofs.Answered.{answered}
-use Rattle.ntfe_run.proofs.ListEnds.{none_within}
+use Rattle.ntfe_run.proofs.Answered.{answered, keeps_same}
 
 -- no limit refuses a small pair
 pub small_listed : (p : VertexLists) → IsSmallPair p → (fault : PointFault) → HasCause p fault → fault ≢ point.Memory → ⊥
@@ -45,10 +44,6 @@ module _ (number width : ℕ) (g : Shape) where
   own = demo_listed width g
 
   -- ---- what was counted
-
-  -- nothing yet
-  pub nothing_counted : TakesPart own (record { before = None; after = None })
-  nothing_counted = record { blocks = []; last = None; are = no_blocks own; within = none_within (Some demo_limit) 0; took = prefix_none None [] }
 
   pub whole_count : (bytes : Bytes) (count : ℕ) (last : Option (List ℕ)) → TakesAll own bytes count last → IsDemoText number g (demo_text number g count (codes "end") last)
   whole_count bytes count last w = inl record {
@@ -93,6 +88,23 @@ module _ (number width : ℕ) (g : Shape) where
     pub far_end : (face : ℕ) → (key : List ℕ) × MayLimit g None width face key × TakesBelow own bytes key
         → IsDemoEnd number width g (record { before = a; after = a }) (record { before = f; after = f }) (Limit face)
     far_end face (key, may, w) = record { text = []; is = (key, may, record { blocks = w.blocks; are = w.are; few = (let u : 0 + length w.blocks < 1000 = w.under in omega (arith, u)); nothing = refl }); all = Appends-nil a }
+
+  -- what was told of a count that ends so
+  pub told_end : (a b : Option (List ℕ)) (f h : ℕ) (s : Served) → HasServed own (record { before = None; after = None }) s → s ≢ served.WriteFault
+      → (status : Status) → TellsCount number g s (record { before = a; after = b }) (record { before = f; after = h }) status → IsDemoEnd number width g (record { before = a; after = b }) (record { before = f; after = h }) status
+  told_end a b f h (served.End count last) w takes status (r, e, wrote) =
+      subst (IsDemoEnd number width g (record { before = a; after = b }) (record { before = f; after = h })) (sym e) (lines_end (demo_text number g count (codes "end") last) (whole_count (record { before = None; after = None }) count last w) a b f h r wrote)
+  told_end a b f h (served.Limit count last) w takes status (r, e, wrote) =
+      subst (IsDemoEnd number width g (record { before = a; after = b }) (record { before = f; after = h })) (sym e) (lines_end (demo_text number g count (codes "limit") last) (limited_count (record { before = None; after = None }) count last w) a b f h r wrote)
+  told_end a b f h (served.Wide choice step n) w takes status (e, t, u) =
+      subst (λ (x : Option (List ℕ) × ℕ × Status). IsDemoEnd number width g (record { before = a; after = x.0 }) (record { before = f; after = x.1 }) x.2) (λ j. (sym t j, sym u j, sym e j))
+      (wide_end (record { before = None; after = None }) a f choice step n w)
+  told_end a b f h (served.Far face) w takes status (e, t, u) =
+      subst (λ (x : Option (List ℕ) × ℕ × Status). IsDemoEnd number width g (record { before = a; after = x.0 }) (record { before = f; after = x.1 }) x.2) (λ j. (sym t j, sym u j, sym e j))
+      (far_end (record { before = None; after = None }) a f face w)
+  told_end a b f h served.WriteFault w takes status k = absurd (takes refl)
+  told_end a b f h served.Memory w takes status (e, t, u) =
+      subst (λ (x : Option (List ℕ) × ℕ × Status). IsDemoEnd number width g (record { before = a; after = x.0 }) (record { before = f; after = x.1 }) x.2) (λ j. (sym t j, sym u j, sym e j)) (inl (keeps_same a))
 
   -- ---- what the status says
 

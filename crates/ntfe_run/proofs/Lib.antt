@@ -20,3 +20,4 @@ pub mod ShownChoices
 pub mod DoneShows
 pub mod KeptTexts
 pub mod RestrictedItems
+pub mod TaskEnds

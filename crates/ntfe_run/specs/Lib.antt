@@ -11,3 +11,5 @@ pub mod Messages
 pub mod Parts
 pub mod Statuses
 pub mod Shown
+pub mod Dues
+pub mod Tasks

@@ -1,5 +1,5 @@
 -- The statuses that the steps of a command come to.
-use Rattle.std.specs.Prelude.{◌≡◌, ◌⊎◌, ℕ, List, Option, Result, Ok, Err, ⊤}
+use Rattle.std.specs.Prelude.{◌≡◌, ◌⊎◌, ℕ, List, codes, Option, Result, Ok, Err, ⊤}
 use Rattle.std.specs.Io.KnownBytes.{Keeps}
 use Rattle.io_edge.specs.Causes.{Rose}
 use Rattle.io_edge.specs.Changes.{Change}
@@ -17,7 +17,7 @@ use Rattle.class_text.specs.Earlier as earlier
 use Rattle.ntfe_run.specs.Earlier.{Begun, IsBegunInput}
 use Rattle.ntfe_run.specs.declared.commands.resume.Resumed.{Resumed}
 use Rattle.ntfe_run.specs.Commands.{input_limit, begun_limit, IsListText, IsListBegun, demo_room}
-use Rattle.ntfe_run.specs.Demo.{IsDemoText}
+use Rattle.ntfe_run.specs.Demo.{IsDemoText, demo_text}
 use Rattle.ntfe_run.specs.Inputs.{IsInputOf}
 use Rattle.ntfe_run.specs.Rooms.{Takes, TakesPrefix, IsAnswer}
 use Rattle.ntfe_run.specs.declared.status.Refusal.{Refusal}
@@ -101,6 +101,12 @@ WritesLast (served.Limit count last) taken faults status = WritesLine (limit_lin
 WritesLast s taken faults status = (status ≡ status_of_end s) × (taken.after ≡ taken.before) × (faults.after ≡ faults.before)
 
 -- ---- the classes of a product of two polygons
+
+-- the lines that tell of a count were written, where it came to its end or limit
+abbrev pub TellsCount : ℕ → Shape → Served → Change (Option (List ℕ)) → Change ℕ → Status → Type 0
+TellsCount number g (served.End count last) taken faults status = WritesLine (demo_text number g count (codes "end") last) taken faults status
+TellsCount number g (served.Limit count last) taken faults status = WritesLine (demo_text number g count (codes "limit") last) taken faults status
+TellsCount number g s taken faults status = (status ≡ status_of_end s) × (taken.after ≡ taken.before) × (faults.after ≡ faults.before)
 
 -- how the counting ends, and what was taken of its lines: nothing before it has come to its end
 abbrev pub IsDemoEnd : ℕ → ℕ → Shape → Change (Option (List ℕ)) → Change ℕ → Status → Type 0

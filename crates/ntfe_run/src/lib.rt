@@ -5,12 +5,14 @@ mod commands;
 mod demo_lines;
 mod inputs;
 mod laws;
+mod list_task;
 mod listing;
 mod messages;
 mod numbered;
 mod part;
 mod reading;
 mod status;
+mod tasks;
 mod text_laws;
 mod top;
 

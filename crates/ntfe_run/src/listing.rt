@@ -1,21 +1,27 @@
 //! The text of a list of classes.
-ghost use Rattle.std.specs.Prelude.{◌≡◌, ◌≤◌, ◌==◌, ℕ, List, [], Option, cond};
-ghost use Rattle.std.specs.Io.KnownBytes.{Appends};
+ghost use Rattle.std.specs.Prelude.{◌≡◌, ◌≤◌, [], cond};
+ghost use Rattle.io_edge.specs.Causes.{Rose};
 ghost use Rattle.io_edge.specs.Lines.{WritesText};
 ghost use Rattle.ntfe_model.specs.RunText.{head_text};
 ghost use Rattle.class_text.specs.Forms.{form_of};
-ghost use Rattle.ntfe_run.specs.Statuses.{head_of, IsListEnd, WritesLast};
+ghost use Rattle.steal_workers.specs.Listings.{HasServed};
+ghost use Rattle.ntfe_run.specs.Statuses.{WritesLast};
 
 use crate::status::{Status, status_of_lines};
 use class_text::{TextForm, write_end, write_head};
 use fine_stream::OwnBook;
-use io_edge::{LineFault, Sink};
+use io_edge::{Gate, LineFault, Sink};
 use nogood_set::NogoodSet;
 use std::alloc::Global;
-use steal_workers::{Listing, Served, list_alone};
+use std::sync::Wait;
+use std::thread::Threads;
+use steal_workers::{Listing, Served, list_alone, list_together};
+
+/// The most workers.
+const WORKERS_MOST: u16 = 16;
 
 /// Writes the head, where it is due.
-fn write_head_due<K: Sink>(
+pub fn write_head_due<K: Sink>(
     alloc: Global,
     form: &TextForm,
     due: bool,
@@ -30,7 +36,7 @@ fn write_head_due<K: Sink>(
 }
 
 /// Writes the last line of a list that came to its end or to its limit.
-fn write_last<K: Sink>(alloc: Global, served: Served, out: &mut K) -> Status
+pub fn write_last<K: Sink>(alloc: Global, served: Served, out: &mut K) -> Status
     ensures { WritesLast served (record { before = K.taken out.old; after = K.taken out.new }) (record { before = K.faults out.old; after = K.faults out.new }) result }
 {
     match served {
@@ -51,30 +57,34 @@ fn write_last<K: Sink>(alloc: Global, served: Served, out: &mut K) -> Status
     }
 }
 
-/// Writes the blocks of a list, and its last line. What stands before them is written already.
-fn write_body<K: Sink>(alloc: Global, listing: &Listing<'_>, out: &mut K) -> Status
-    ensures { (kept : ℕ) (earlier : Option (List ℕ)) (fewer : ℕ) → Appends earlier (K.taken out.old) (head_of listing.now kept) → fewer ≤ K.faults out.old
-        → IsListEnd listing.now kept (record { before = earlier; after = K.taken out.new }) (record { before = fewer; after = K.faults out.new }) result }
+/// Lists on this thread, with a book of its own and no certificates.
+pub fn list_here<K: Sink>(alloc: Global, listing: &Listing<'_>, out: &mut K) -> Served
+    ensures served { HasServed listing.now (record { before = K.taken out.old; after = K.taken out.new }) result }
+    ensures cause { result ≡ Served.WriteFault → Rose (K.faults out.old) (K.faults out.new) }
+    ensures later { K.faults out.old ≤ K.faults out.new }
 {
     let Ok(mut book) = OwnBook::new(alloc, listing.geometry()) else {
-        return Status::Memory;
+        return Served::Memory;
     };
     let set = NogoodSet::new(alloc);
-    let served = list_alone(alloc, listing, &mut book, &set, out);
-    write_last(alloc, served, out)
+    list_alone(alloc, listing, &mut book, &set, out)
 }
 
-/// Writes the text of a list: the head where it is due, the blocks and the last line.
-pub fn write_list<K: Sink>(
+/// Lists with up to 16 workers beside this thread, or on this thread alone where one is asked for.
+pub fn list_with<R: Threads + Wait + Sync, K: Sink, G: Gate + Sync>(
+    rt: &R,
     alloc: Global,
     listing: &Listing<'_>,
-    head_due: bool,
+    workers: u16,
     out: &mut K,
-) -> Status
-    ensures { (kept : ℕ) → head_due ≡ (kept == 0) → IsListEnd listing.now kept (record { before = K.taken out.old; after = K.taken out.new }) (record { before = K.faults out.old; after = K.faults out.new }) result }
+    gate: &G,
+) -> Served
+    ensures served { HasServed listing.now (record { before = K.taken out.old; after = K.taken out.new }) result }
+    ensures cause { result ≡ Served.WriteFault → Rose (K.faults out.old) (K.faults out.new) }
+    ensures later { K.faults out.old ≤ K.faults out.new }
 {
-    if let Err(fault) = write_head_due(alloc, listing.form(), head_due, out) {
-        return status_of_lines(Err(fault));
+    if workers < 2 {
+        return list_here(alloc, listing, out);
     }
-    write_body(alloc, listing, out)
+    list_together(rt, alloc, listing, workers.min(WORKERS_MOST), out, gate)
 }

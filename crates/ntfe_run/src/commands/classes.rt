@@ -1,22 +1,18 @@
 //! `classes`: the classes of a pair.
 ghost use Rattle.std.specs.Prelude.{◌≡◌, ◌≤◌, ◌+◌, IfOk};
 ghost use Rattle.steal_workers.specs.Forms.{IsFormOf};
-ghost use Rattle.ntfe_model.specs.Keys.{IsStart};
 ghost use Rattle.ntfe_model.specs.RunText.{nothing_kept};
 ghost use Rattle.class_text.specs.Earlier.{kept_of};
-ghost use Rattle.ntfe_run.specs.Commands.{classes_room, listed_with};
-ghost use Rattle.ntfe_run.specs.Statuses.{IsListEnd};
-ghost use Rattle.ntfe_run.specs.Rooms.{IsAnswered};
+ghost use Rattle.ntfe_run.specs.Commands.{classes_room};
+ghost use Rattle.ntfe_run.specs.Tasks.{IsTaskOf};
 
-use crate::listing::write_list;
 use crate::reading::read_geometry;
-use crate::status::Status;
+use crate::tasks::{Task, begin_list};
 use class_text::{Earlier, TextForm};
 use io_edge::{Sink, Source};
 use ntfe_model::Geometry;
 use ntfe_words::Options;
 use std::alloc::{AllocError, Global};
-use steal_workers::Listing;
 
 /// What the text depends on beside the classes, where so many blocks are kept.
 pub fn text_form(
@@ -39,28 +35,8 @@ pub fn text_form(
     })
 }
 
-/// Writes the text of the classes behind what is kept of an earlier output.
-pub fn write_classes<K: Sink>(
-    alloc: Global,
-    options: &Options,
-    geometry: &Geometry,
-    earlier: &Earlier,
-    out: &mut K,
-) -> Status
-    requires low { 1 ≤ options.now.width }
-    requires high { options.now.width ≤ 62 }
-    requires start { IsStart geometry.now earlier.now.last }
-    ensures { IsListEnd (listed_with options.now geometry.now (kept_of earlier.now)) earlier.now.kept (record { before = K.taken out.old; after = K.taken out.new }) (record { before = K.faults out.old; after = K.faults out.new }) result }
-{
-    let Ok(form) = text_form(alloc, options, geometry, earlier.count) else {
-        return Status::Memory;
-    };
-    let listing = Listing::new(geometry, &form, &earlier.last, options.limit, options.width);
-    write_list(alloc, &listing, earlier.kept == 0, out)
-}
-
 /// What is kept where there is no earlier output.
-fn nothing_kept() -> Earlier
+pub fn nothing_kept() -> Earlier
     ensures { kept_of result ≡ nothing_kept }
 {
     Earlier {
@@ -70,16 +46,16 @@ fn nothing_kept() -> Earlier
     }
 }
 
-/// Reads a pair, and writes the text of its classes. The width is from 1 to 62.
-pub fn list_classes<S: Source, K: Sink>(
+/// Reads a pair, and writes the head of the list of its classes. The width is from 1 to 62.
+pub fn begin_classes<S: Source, K: Sink>(
     alloc: Global,
     options: &Options,
     source: &mut S,
     out: &mut K,
-) -> Status
+) -> Task
     requires low { 1 ≤ options.now.width }
     requires high { options.now.width ≤ 62 }
-    ensures answer { IsAnswered (classes_room options.now) (record {
+    ensures task { IsTaskOf (classes_room options.now) (record {
       left = record { before = S.left source.old; after = S.left source.new };
       read_faults = record { before = S.faults source.old; after = S.faults source.new };
       taken = record { before = K.taken out.old; after = K.taken out.new };
@@ -88,7 +64,7 @@ pub fn list_classes<S: Source, K: Sink>(
     ensures turns { S.turns source.new ≤ S.turns source.old + 65538 }
 {
     match read_geometry(alloc, source) {
-        Ok(geometry) => write_classes(alloc, options, &geometry, &nothing_kept(), out),
-        Err(status) => status,
+        Ok(geometry) => begin_list(alloc, options, geometry, nothing_kept(), out),
+        Err(status) => Task::Ended(status),
     }
 }

@@ -1,23 +1,22 @@
 //! `demo`: how many classes a product of two polygons has, up to a limit.
-ghost use Rattle.std.specs.Prelude.{◌≡◌, ◌≢◌, ◌≤◌, ℕ, List, Option, None, IfOk};
-ghost use Rattle.steal_workers.specs.Listings.{HasServed};
+ghost use Rattle.std.specs.Prelude.{◌≡◌, ◌≤◌, ℕ, List, Option, IfOk};
 ghost use Rattle.ntfe_run.specs.Commands.{demo_room};
 ghost use Rattle.ntfe_run.specs.Demo.{IsDemoOf, demo_listed};
-ghost use Rattle.ntfe_run.specs.Statuses.{IsDemoEnd};
-ghost use Rattle.ntfe_run.specs.Rooms.{IsAnswered};
+ghost use Rattle.ntfe_run.specs.Statuses.{TellsCount};
+ghost use Rattle.ntfe_run.specs.Tasks.{IsTaskOf};
 
-use crate::commands::classes::text_form;
+use crate::commands::classes::nothing_kept;
 use crate::demo_lines::write_demo;
+use crate::list_task::ListTask;
 use crate::status::{Status, status_of_lines};
-use fine_stream::OwnBook;
-use io_edge::{NullSink, Sink};
+use crate::tasks::Task;
+use io_edge::Sink;
 use lattice_points::PointFault;
-use nogood_set::NogoodSet;
 use ntfe_model::{Geometry, Push};
 use ntfe_words::Options;
 use polygon_demo::demo;
 use std::alloc::{AllocError, Global};
-use steal_workers::{Listing, Served, list_alone};
+use steal_workers::Served;
 use two_faces::geometry;
 
 /// The greatest number of classes that are counted.
@@ -38,45 +37,32 @@ fn demo_geometry(alloc: Global, number: u8) -> Result<Geometry, AllocError>
     }
 }
 
-/// Lists the classes of a geometry up to the limit, with pushing up and without stars, and drops the
-/// text.
-fn count_classes(alloc: Global, geometry: &Geometry, width: u8) -> Served
+/// The classes of a geometry up to the limit, with pushing up and without stars.
+fn count_task(
+    alloc: Global,
+    geometry: Geometry,
+    workers: u16,
+    width: u8,
+) -> Result<ListTask, AllocError>
     requires low { 1 ≤ width }
     requires high { width ≤ 62 }
-    ensures served { HasServed (demo_listed width geometry.now) (record { before = None; after = None }) result }
-    ensures takes { result ≢ Served.WriteFault }
+    ensures { IfOk result (λ t. t.listed ≡ demo_listed width geometry) }
 {
     let options = Options {
-        workers: 1,
+        workers,
         limit: Some(CLASS_LIMIT),
         width,
         push: Push::Up,
         stars: false,
     };
-    let Ok(form) = text_form(alloc, &options, geometry, 0) else {
-        return Served::Memory;
-    };
-    let Ok(mut book) = OwnBook::new(alloc, geometry) else {
-        return Served::Memory;
-    };
-    let listing = Listing::new(geometry, &form, &None, options.limit, width);
-    let set = NogoodSet::new(alloc);
-    list_alone(alloc, &listing, &mut book, &set, &mut NullSink)
+    ListTask::new(alloc, &options, geometry, nothing_kept())
 }
 
-/// Counts the classes of a geometry up to the limit, and then writes the lines that tell of them.
-fn tell_classes<K: Sink>(
-    alloc: Global,
-    number: u8,
-    width: u8,
-    geometry: &Geometry,
-    out: &mut K,
-) -> Status
-    requires low { 1 ≤ width }
-    requires high { width ≤ 62 }
-    ensures { IsDemoEnd number width geometry.now (record { before = K.taken out.old; after = K.taken out.new }) (record { before = K.faults out.old; after = K.faults out.new }) result }
+/// Writes the lines that tell of the classes that were counted, where the counting came to its end or limit.
+pub fn tell_classes<K: Sink>(number: u8, geometry: &Geometry, served: Served, out: &mut K) -> Status
+    ensures { TellsCount number geometry.now served (record { before = K.taken out.old; after = K.taken out.new }) (record { before = K.faults out.old; after = K.faults out.new }) result }
 {
-    match count_classes(alloc, geometry, width) {
+    match served {
         Served::End { count, last } => {
             status_of_lines(write_demo(number, geometry, count, "end", &last, out))
         }
@@ -93,27 +79,30 @@ fn tell_classes<K: Sink>(
             number,
         },
         Served::Far { face } => Status::Limit { face },
-        Served::WriteFault => unreachable!(),
+        Served::WriteFault => Status::WriteFault,
         Served::Memory => Status::Memory,
     }
 }
 
-/// Counts the classes of the product of polygon 1 and the polygon with this number, from 1 to 5, up to
-/// the limit, and writes the lines that tell of them. Nothing is read. The width is from 1 to 62.
-pub fn show_demo<K: Sink>(alloc: Global, number: u8, width: u8, out: &mut K) -> Status
+/// The classes of the product of polygon 1 and the polygon with this number, from 1 to 5, which are to be counted. Nothing
+/// is read or written. The width is from 1 to 62.
+pub fn begin_demo(alloc: Global, number: u8, workers: u16, width: u8) -> Task
     requires first { 1 ≤ number }
     requires last { number ≤ 5 }
     requires low { 1 ≤ width }
     requires high { width ≤ 62 }
-    ensures { (left : Option (List ℕ)) (reads : ℕ) → IsAnswered (demo_room number width) (record {
+    ensures { (left taken : Option (List ℕ)) (reads writes : ℕ) → IsTaskOf (demo_room number width) (record {
       left = record { before = left; after = left };
       read_faults = record { before = reads; after = reads };
-      taken = record { before = K.taken out.old; after = K.taken out.new };
-      write_faults = record { before = K.faults out.old; after = K.faults out.new };
+      taken = record { before = taken; after = taken };
+      write_faults = record { before = writes; after = writes };
     }) result }
 {
-    match demo_geometry(alloc, number) {
-        Ok(geometry) => tell_classes(alloc, number, width, &geometry, out),
-        Err(AllocError) => Status::Memory,
+    let Ok(geometry) = demo_geometry(alloc, number) else {
+        return Task::Ended(Status::Memory);
+    };
+    match count_task(alloc, geometry, workers, width) {
+        Ok(task) => Task::Counts(number, task),
+        Err(_) => Task::Ended(Status::Memory),
     }
 }

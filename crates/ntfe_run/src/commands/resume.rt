@@ -1,17 +1,17 @@
 //! `resume`: the rest of a list of classes, behind what an earlier run wrote.
 ghost use Rattle.std.specs.Prelude.{◌≡◌, ◌<◌, ◌≤◌, ◌+◌, ◌^◌, length, IfOk, IfErr};
-ghost use Rattle.ntfe_model.specs.Keys.{IsStart};
 ghost use Rattle.ntfe_model.specs.Earlier.{IsKeptOf};
 ghost use Rattle.class_text.specs.Earlier.{kept_of};
 ghost use Rattle.ntfe_run.specs.Commands.{resume_room, form_of_options, begun_limit};
 ghost use Rattle.ntfe_run.specs.Earlier.{layout, IsBegunInput, IsBegunRefusal, IsBegunStop, IsEarlierStop};
 ghost use Rattle.ntfe_run.specs.Statuses.{IsReadStop, IsBegunRead, begun_input};
-ghost use Rattle.ntfe_run.specs.Rooms.{IsAnswered};
+ghost use Rattle.ntfe_run.specs.Tasks.{IsTaskOf};
 
-use crate::commands::classes::{text_form, write_classes};
+use crate::commands::classes::text_form;
 use crate::inputs::{Stop, geometry_of};
 use crate::reading::read_bytes;
 use crate::status::{Refusal, Status};
+use crate::tasks::{Task, begin_list};
 use class_text::{Earlier, EarlierFault, read_earlier};
 use io_edge::{Sink, Source};
 use ntfe_model::Geometry;
@@ -92,16 +92,17 @@ fn read_begun<S: Source>(
     }
 }
 
-/// Reads a pair and an earlier output, and writes the rest of the text of the pair's classes. The width is from 1 to 62.
-pub fn resume_classes<S: Source, K: Sink>(
+/// Reads a pair and an earlier output, and writes the head of the list of the pair's classes where nothing is kept. The
+/// width is from 1 to 62.
+pub fn begin_resume<S: Source, K: Sink>(
     alloc: Global,
     options: &Options,
     source: &mut S,
     out: &mut K,
-) -> Status
+) -> Task
     requires low { 1 ≤ options.now.width }
     requires high { options.now.width ≤ 62 }
-    ensures answer { IsAnswered (resume_room options.now) (record {
+    ensures task { IsTaskOf (resume_room options.now) (record {
       left = record { before = S.left source.old; after = S.left source.new };
       read_faults = record { before = S.faults source.old; after = S.faults source.new };
       taken = record { before = K.taken out.old; after = K.taken out.new };
@@ -110,7 +111,7 @@ pub fn resume_classes<S: Source, K: Sink>(
     ensures turns { S.turns source.new ≤ S.turns source.old + 67108866 }
 {
     match read_begun(alloc, options, source) {
-        Ok(begun) => write_classes(alloc, options, &begun.geometry, &begun.earlier, out),
-        Err(status) => status,
+        Ok(begun) => begin_list(alloc, options, begun.geometry, begun.earlier, out),
+        Err(status) => Task::Ended(status),
     }
 }

@@ -5,7 +5,7 @@ use Rattle.ntfe_run.proofs.top.run_alone.Goals as goal
 
 pub returns-clause-answer : goal.returns-clause-answer
 returns-clause-answer g c =
-    let h = c.answer-status.ensures in
+    let h = c.answer_alone-status.ensures in
     record { cause = h.cause; text = h.text; headline = headline _ _ _ h.text; complete = complete _ _ _ h.cause }
 
 pub returns-clause-message : goal.returns-clause-message
