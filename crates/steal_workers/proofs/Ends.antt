@@ -1,25 +1,22 @@
 -- From what has been written to what has been written after one call more, or to the end of the list.
-use Rattle.std.proofs.Common.{◌≡◌, ℕ, ◌+◌, ◌-◌, ◌^◌, ◌<◌, ◌≤◌, ◌⊎◌, inl, inr, ⊎_elim, min, max, Bool, true, false, cond, nat_lt, refl, sym, ap, ◌∙◌, subst, arith, ℤ, List, [], ◌∷◌, ◌++◌, length, flat_map, append-nil, length-append, Some, None, Result, Ok, Err}
+use Rattle.std.proofs.Common.{◌≡◌, ℕ, ◌+◌, ◌-◌, ◌^◌, ◌≤◌, ◌⊎◌, ⊎_elim, min, max, Bool, true, false, cond, nat_lt, refl, sym, ap, ◌∙◌, subst, arith, ℤ, List, [], ◌∷◌, ◌++◌, length, flat_map, append-nil, length-append, Some, None, Result, Ok, Err}
 use Rattle.std.specs.Prelude.{Option, OnOk, OnErr}
 use Rattle.std.specs.Io.KnownBytes.{Appends}
 use Rattle.std.proofs.KnownBytes.{Appends-nil, Appends-trans}
 use Rattle.std.proofs.lemmas.Bool.Decides.{nat_tests}
 use Rattle.std.proofs.lemmas.Grind.{flat_map-append}
 use Rattle.io_edge.specs.Causes.{AppendsPrefix}
-use Rattle.io_edge.specs.Lines.{WritesText}
 use Rattle.io_edge.specs.declared.line_fault.LineFault.{LineFault}
 use Rattle.io_edge.specs.declared.line_fault.LineFault.TheVariants as line
-use Rattle.io_edge.proofs.Pieces.{prefix_none, prefix_all, prefix_next}
+use Rattle.io_edge.proofs.Pieces.{prefix_all, prefix_next}
 use Rattle.ntfe_model.specs.Keys.{IsClass}
 use Rattle.ntfe_model.specs.RunText.{Block, IsUnderLimit, block_text}
 use Rattle.choice_board.specs.Settling.{counted}
-use Rattle.choice_board.specs.declared.outcome.Outcome.{Outcome}
 use Rattle.choice_board.specs.declared.outcome.Outcome.TheVariants.{Class, Wide, Far}
 use Rattle.class_text.proofs.KeptBlocks.{last_of_more}
-use Rattle.steal_workers.specs.Listings.{Bytes, Listed, Progress, IsWithinLimit, IsSmallLimit, IsAtLimit, last_choice, at_start, HasWritten, HasServed, ComesNext, IsNextOutcome, NoneIsLeft, GoesOn, EndsAs, TakesAll, TakesDue, TakesBelow, TakesPart}
-use Rattle.steal_workers.specs.Blocks.{IsClassBlock, WritesBlock, MovesTo}
+use Rattle.steal_workers.specs.Listings.{Bytes, Listed, Progress, IsWithinLimit, IsSmallLimit, IsAtLimit, at_start, HasWritten, ComesNext, IsNextOutcome, NoneIsLeft, GoesOn, EndsAs, TakesAll, TakesDue, TakesBelow, TakesPart}
+use Rattle.steal_workers.specs.Blocks.{IsClassBlock, WritesBlock}
 use Rattle.steal_workers.specs.Ends.{end_of}
-use Rattle.steal_workers.specs.declared.served.Served.{Served}
 use Rattle.steal_workers.specs.declared.served.Served.TheVariants as served
 use Rattle.steal_workers.proofs.NextBlocks.{no_blocks, next_block, all_blocks, blocks_below}
 

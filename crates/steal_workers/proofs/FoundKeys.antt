@@ -1,12 +1,12 @@
 -- What a worker found, key by key, and what stays the same while it is settled.
-use Rattle.std.proofs.Common.{◌≡◌, ◌∙◌, sym, ap, subst, ℕ, List, [], ◌∷◌, ◌++◌}
+use Rattle.std.proofs.Common.{◌≡◌, true, ◌∙◌, sym, subst, ℕ, List, [], ◌∷◌, ◌++◌}
 use Rattle.std.specs.Prelude.{All}
 use Rattle.std.proofs.lemmas.List.Elements.{All-head, All-rest, All-push}
 use Rattle.ntfe_model.specs.Shapes.{Shape}
 use Rattle.steal_workers.specs.Probing.{Probes, IsVerdictOn}
 use Rattle.steal_workers.specs.Shared.{Shared, IsSameListing}
-use Rattle.steal_workers.specs.Tallies.{Counts, IsSameTally}
-use Rattle.steal_workers.specs.Workers.{AreFound, IsWorker}
+use Rattle.steal_workers.specs.Tallies.{Counts, IsSameTally, IsSameShare}
+use Rattle.steal_workers.specs.Workers.{AreFound}
 use Rattle.steal_workers.specs.declared.found_keys.FoundKey.{FoundKey}
 
 module _ (g : Shape) (width : ℕ) (x : FoundKey) (xs ys : List FoundKey) (e : ys ≡ x ∷ xs) (h : AreFound g width ys) where
@@ -35,3 +35,9 @@ same_listing_then s t u p q = record { geometry = q.geometry ∙ p.geometry; wid
 
 pub same_tally_then : (s t u : Counts) → IsSameTally s t → IsSameTally t u → IsSameTally s u
 same_tally_then s t u p q = record { worker = q.worker ∙ p.worker; alone = q.alone ∙ p.alone; parts = q.parts ∙ p.parts }
+
+pub same_share : {s t : Counts} → IsSameTally s t → IsSameShare s t
+same_share p = record { worker = p.worker; parts = p.parts }
+
+pub left_share : {s t : Counts} → IsSameTally s t → IsSameShare s (record t { alone = true })
+left_share p = record { worker = p.worker; parts = p.parts }

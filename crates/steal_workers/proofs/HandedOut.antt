@@ -1,5 +1,5 @@
 -- What a board hands out comes next, and where it is over nothing is left.
-use Rattle.std.proofs.Common.{◌≡◌, ℕ, ◌+◌, ◌<◌, ◌⊎◌, inl, inr, ⊎_elim, refl, sym, ap, ◌∙◌, subst, arith, false, ℤ, List, [], ◌∷◌, ◌++◌, length, Some, None}
+use Rattle.std.proofs.Common.{◌≡◌, ℕ, ◌+◌, ◌<◌, ◌⊎◌, inl, inr, ⊎_elim, refl, sym, ap, ◌∙◌, subst, arith, List, [], ◌∷◌, ◌++◌, length, Some, None}
 use Rattle.std.specs.Prelude.{Option, Contains, All, AllPairs}
 use Rattle.std.proofs.lemmas.List.Elements.{All-contains, All-cons, All-nil, Contains-append_left}
 use Rattle.ntfe_model.specs.Lists.{IsBelow}
@@ -10,7 +10,6 @@ use Rattle.ntfe_model.proofs.Listings.{Contains-here, Contains-there, Contains-n
 use Rattle.choice_board.specs.Places.{IsIn}
 use Rattle.choice_board.specs.Starts.{new_board}
 use Rattle.choice_board.specs.States.{State, Holder, IsHolder, place_of, IsSound}
-use Rattle.choice_board.specs.Settling.{counted}
 use Rattle.choice_board.specs.Telling.{IsBlocked, IsTaken, IsHandedOut, IsWaiting}
 use Rattle.choice_board.specs.declared.record.Record.{Record}
 use Rattle.choice_board.specs.declared.record.Found.{Found}
@@ -21,7 +20,7 @@ use Rattle.farkas_check.proofs.Refuting.{blocked_refuted}
 use Rattle.star_builder.proofs.SomeFaces.{has_face}
 use Rattle.steal_workers.specs.Listings.{Listed, Progress, at_start, ComesNext, IsNextOutcome, NoneIsLeft}
 use Rattle.steal_workers.specs.Blocks.{MovesTo}
-use Rattle.steal_workers.specs.Boards.{IsLiveRecord, IsUnderWay, IsRunning, IsFewer, IsOver, IsAbreast, IsLevel, IsOneOn}
+use Rattle.steal_workers.specs.Boards.{IsLiveRecord, IsUnderWay, IsFewer, IsOver, IsAbreast, IsLevel, IsOneOn}
 use Rattle.steal_workers.proofs.LiveKeys.{start_live}
 
 -- a choice that begins with the head of a pruned key is not extendable

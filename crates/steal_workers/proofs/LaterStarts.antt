@@ -1,6 +1,6 @@
 -- A listing that goes on from a later start: a new board that begins after a class may treat what it finds as found from the listing's own
 -- start, since the solver is infeasible on no head of a class.
-use Rattle.std.proofs.Common.{◌≡◌, ℕ, ◌<◌, ◌≤◌, ◌⊎◌, inl, inr, Bool, true, false, refl, sym, ap, ◌∙◌, subst, arith, pos, ◌<ℤ◌, List, [], ◌∷◌, length, take, get_or, Some}
+use Rattle.std.proofs.Common.{◌≡◌, ℕ, ◌<◌, ◌≤◌, inl, inr, Bool, true, false, refl, sym, ap, ◌∙◌, subst, arith, pos, ◌<ℤ◌, List, [], ◌∷◌, length, take, get_or, Some}
 use Rattle.std.specs.Prelude.{All, Option, slice_index}
 use Rattle.std.specs.Bool.{Decides, nat_eq}
 use Rattle.std.specs.Cmp.Lexicographic.{pointwise}
@@ -21,11 +21,15 @@ use Rattle.node_probe.proofs.Heads.{head_all}
 use Rattle.node_probe.proofs.Lifted.{lifted_not_infeasible}
 use Rattle.choice_board.specs.Starts.{new_board}
 use Rattle.choice_board.specs.States.{State, IsSound}
+use Rattle.choice_board.specs.declared.outcome.Outcome.{Outcome}
+use Rattle.choice_board.specs.declared.outcome.Outcome.TheVariants as outcome
 use Rattle.choice_board.specs.declared.record.Found.{Found}
 use Rattle.choice_board.specs.declared.record.Found.TheVariants.{Class, Wide, Far}
 use Rattle.choice_board.proofs.PlaceLemmas.{key_parts}
-use Rattle.steal_workers.specs.Listings.{Listed, Progress}
-use Rattle.steal_workers.specs.Boards.{IsLiveRecord, IsUnderWay, IsAbreast}
+use Rattle.steal_workers.specs.Listings.{Listed, Progress, IsNextOutcome}
+use Rattle.steal_workers.specs.Blocks.{MovesTo}
+use Rattle.steal_workers.specs.Shared.{IsKeyed}
+use Rattle.steal_workers.specs.Boards.{IsLiveRecord, IsUnderWay, IsAbreast, IsStartOrClass, IsPlace}
 use Rattle.steal_workers.proofs.HandedOut.{new_abreast}
 use Rattle.steal_workers.proofs.HeightsExtend.{head_over}
 use Rattle.steal_workers.proofs.NextBlocks.{after_chain}
@@ -75,10 +79,6 @@ live_later g s start width c e after key live = record {
     by k p l true d = let begins = d.0 refl in (head_items g s c e (take k key) begins, head_not_refuted g s c e (take k key) begins width)
     by k p l false d = live.open_stems k p l (not_from_Decides false d refl)
 
--- the start itself, or a class after it
-abbrev pub IsStartOrClass : Listed → Option (List ℕ) → Type 0
-IsStartOrClass l last = (last ≡ l.start) ⊎ ((c : List ℕ) × (last ≡ Some c) × IsExtendable l.geometry c × IsAfter l.start c)
-
 module _ (l : Listed) (last : Option (List ℕ)) (from : IsStartOrClass l last) (s : IsShape l.geometry) where
   live_from : (key : List ℕ) → IsLive l.geometry last l.width key → IsLive l.geometry l.start l.width key
   live_from key live = by from
@@ -117,3 +117,17 @@ new_abreast_later p s from sound e =
     let a = new_abreast (record p.listed { start = p.last }) s sound e in
     let shape : IsShape p.listed.geometry = subst IsShape a.under_way.geometry sound.shape in
     record { last = a.last; under_way = start_or_class p.listed p.last from shape s a.under_way; running = a.running; sound = sound }
+
+-- the class that comes next may be begun after
+pub moved_place : (p q : Progress) (o : Outcome) → IsPlace p.listed p.last → IsNextOutcome p.listed p.last o → IsKeyed p.listed.geometry o → MovesTo p q o → IsPlace q.listed q.last
+moved_place p q (outcome.Class choice w) place next key e =
+    subst (λ (x : Progress). IsPlace x.listed x.last) (sym e) record {
+      from = inr (choice, refl, record { items = next.0.0; heights = w; extends = next.0.2 }, after place.from);
+      near = key_is_start p.listed.geometry choice next.0.0 key next.0.1;
+    }
+  where
+    after : IsStartOrClass p.listed p.last → IsAfter p.listed.start choice
+    after (inl same) = subst (λ (start : Option (List ℕ)). IsAfter start choice) same next.1.above
+    after (inr (c, same, extendable, above)) = after_chain p.listed.start c choice above (subst (λ (last : Option (List ℕ)). IsAfter last choice) same next.1.above)
+moved_place p q (outcome.Wide choice step number) place next key e = absurd e
+moved_place p q (outcome.Far face) place next key e = absurd e

@@ -1,11 +1,10 @@
 -- What a settled key opens, and the keys that a board begins with, may be come to.
-use Rattle.std.proofs.Common.{refl, ◌≡◌, ℕ, ◌+◌, ◌-◌, ◌<◌, ◌≤◌, ◌⊎◌, inl, inr, ⊎_elim, sym, ap, ◌∙◌, subst, arith, List, [], ◌∷◌, ◌++◌, length, take, map, slice_index, Bool, true, false, cond, nat_eq, Some, None, length-append}
-use Rattle.std.specs.Prelude.{Contains, All, ⊤, Option}
+use Rattle.std.proofs.Common.{◌≡◌, ℕ, ◌+◌, ◌<◌, ◌≤◌, ◌⊎◌, inl, inr, ⊎_elim, sym, ap, ◌∙◌, subst, arith, List, [], ◌∷◌, length, take, map, slice_index, Bool, true, false, cond, nat_eq, Some, None, length-append}
+use Rattle.std.specs.Prelude.{Contains, All, Option}
 use Rattle.std.specs.List.{range_with_len}
 use Rattle.std.proofs.lemmas.List.{take-append-le, take-take, length-take-le}
 use Rattle.std.proofs.Math.Seq.{take-append_seam}
 use Rattle.std.proofs.lemmas.List.Elements.{All-contains, All-cons, All-nil}
-use Rattle.ntfe_model.specs.Lists.{IsBelow}
 use Rattle.ntfe_model.specs.Shapes.{Shape}
 use Rattle.ntfe_model.specs.Keys.{stem, last_number, AllItemsExist, IsRefutedAt, IsAfter, IsNoPrefixOf, BeginsWith, IsLive}
 use Rattle.ntfe_model.proofs.Listings.{Contains-cases, Contains-none, All-from_contains, listing_range}

@@ -1,12 +1,11 @@
 -- One block more, and what is listed where nothing is left.
-use Rattle.std.proofs.Common.{◌≡◌, ℕ, ◌<◌, ◌⊎◌, inl, inr, ⊎_elim, refl, sym, ap, ◌∙◌, subst, arith, ℤ, List, [], ◌∷◌, ◌++◌, length, Some, None}
-use Rattle.std.specs.Prelude.{Option, Contains, All}
+use Rattle.std.proofs.Common.{◌≡◌, ℕ, ◌⊎◌, inl, inr, ⊎_elim, refl, sym, ap, ◌∙◌, subst, arith, ℤ, List, [], ◌∷◌, ◌++◌, Some, None}
+use Rattle.std.specs.Prelude.{Option, Contains}
 use Rattle.std.proofs.lemmas.List.Elements.{All-contains, All-cons, All-nil}
 use Rattle.ntfe_model.specs.Lists.{IsListing, IsBelow}
-use Rattle.ntfe_model.specs.Shapes.{Shape}
 use Rattle.ntfe_model.specs.Keys.{IsAfter, IsClass}
-use Rattle.ntfe_model.specs.RunText.{Form, Block, IsBlockOf, AreBlocks}
-use Rattle.ntfe_model.proofs.Listings.{Contains-here, Contains-there, Contains-none, listing_append, listing_same, listing_nil}
+use Rattle.ntfe_model.specs.RunText.{Block, IsBlockOf, AreBlocks}
+use Rattle.ntfe_model.proofs.Listings.{Contains-here, Contains-there, listing_append, listing_same, listing_nil}
 use Rattle.ntfe_model.proofs.Orders.{below_chain, below_once, three_ways}
 use Rattle.steal_workers.specs.Listings.{Listed, IsUpTo, AreBlocksTo, AreBlocksBelow, last_choice, ComesNext, NoneIsLeft}
 use Rattle.steal_workers.specs.Blocks.{IsClassBlock}

@@ -2,7 +2,6 @@
 use Rattle.std.proofs.Common.{◌≡◌, ◌<◌, ◌≤◌, ◌∙◌, sym, subst, ℕ, zero, suc, ℤ, arith, List, [], ◌∷◌, length, Some}
 use Rattle.std.specs.Prelude.{slice_get, Result, Ok, Err, IfOk}
 use Rattle.ntfe_model.specs.Shapes.{Shape}
-use Rattle.ntfe_model.specs.Certificates.{IsCertificate}
 use Rattle.ntfe_model.specs.Keys.{IsPruned}
 use Rattle.ntfe_model.specs.declared.nogood.Nogood.{Nogood}
 use Rattle.choice_board.specs.declared.verdict.Verdict.{Verdict}

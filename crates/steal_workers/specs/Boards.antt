@@ -1,7 +1,8 @@
 -- The board while its keys are settled and its outcomes are written.
-use Rattle.std.specs.Prelude.{◌≡◌, ◌<◌, Bool, ℕ, zero, suc, ◌+◌, ◌*◌, min, true, false, List, [], ◌∷◌, length, Option, None, ⊤, All, Contains}
+use Rattle.std.specs.Prelude.{◌≡◌, ◌<◌, ◌⊎◌, Bool, ℕ, zero, suc, ◌+◌, ◌*◌, min, true, false, List, [], ◌∷◌, length, Option, Some, None, ⊤, All, Contains}
 use Rattle.ntfe_model.specs.Shapes.{Shape}
-use Rattle.ntfe_model.specs.Keys.{IsLive, IsWideAt}
+use Rattle.ntfe_model.specs.Choices.{IsExtendable}
+use Rattle.ntfe_model.specs.Keys.{IsStart, IsAfter, IsLive, IsWideAt}
 use Rattle.choice_board.specs.States.{State, IsSound}
 use Rattle.choice_board.specs.declared.record.Record.{Record}
 use Rattle.choice_board.specs.declared.record.Found.{Found}
@@ -93,3 +94,14 @@ pub record IsAbreast (p : Progress) (s : State) : Type 0 where
   pub under_way : IsUnderWay p.listed s
   pub running : IsRunning s
   pub sound : IsSound s
+
+-- ---- where a new board may begin
+
+-- the start itself, or a class after it
+abbrev pub IsStartOrClass : Listed → Option (List ℕ) → Type 0
+IsStartOrClass l last = (last ≡ l.start) ⊎ ((c : List ℕ) × (last ≡ Some c) × IsExtendable l.geometry c × IsAfter l.start c)
+
+-- a new board that begins there can go on with the listing
+pub record IsPlace (l : Listed) (last : Option (List ℕ)) : Type 0 where
+  pub from : IsStartOrClass l last
+  pub near : IsStart l.geometry last

@@ -1,6 +1,10 @@
 -- The board that workers share, and what is seen of it in one moment under its lock.
 use Rattle.std.specs.Prelude.{◌≡◌, ℕ, ◌^◌, min, List, Option, ⊤}
+use Rattle.ntfe_model.specs.Shapes.{Shape}
+use Rattle.ntfe_model.specs.Keys.{IsKey}
 use Rattle.choice_board.specs.States.{State, IsSound}
+use Rattle.choice_board.specs.declared.outcome.Outcome.{Outcome}
+use Rattle.choice_board.specs.declared.outcome.Outcome.TheVariants as outcome
 use Rattle.steal_workers.specs.Listings.{Listed, IsNextOutcome, NoneIsLeft}
 use Rattle.steal_workers.specs.Boards.{IsUnderWay}
 use Rattle.steal_workers.specs.declared.look.Look.{Look}
@@ -31,9 +35,15 @@ pub record IsSameListing (s t : Shared) : Type 0 where
   pub width : t.width ≡ s.width
   pub start : t.start ≡ s.start
 
+-- the choice of a class is a key, so its numbers are within reach
+abbrev pub IsKeyed : Shape → Outcome → Type 0
+IsKeyed g (outcome.Class choice w) = IsKey g choice
+IsKeyed g (outcome.Wide choice step number) = ⊤
+IsKeyed g (outcome.Far face) = ⊤
+
 -- What one moment under the lock tells whoever wrote the classes of a listing up to the last one: the next outcome, or that none is left
 abbrev pub IsLook : Listed → Option (List ℕ) → Look → Type 0
-IsLook l last (Next outcome) = IsNextOutcome l last outcome
+IsLook l last (Next o) = IsNextOutcome l last o × IsKeyed l.geometry o
 IsLook l last Done = NoneIsLeft l.geometry last
 IsLook l last Waiting = ⊤
 IsLook l last Foreign = ⊤

@@ -1,5 +1,5 @@
 -- What a worker counts.
-use Rattle.std.specs.Prelude.{◌≡◌, ℕ, ◌+◌, ◌-◌, ◌^◌, ◌||◌, min, Bool, true, false}
+use Rattle.std.specs.Prelude.{◌≡◌, ℕ, ◌+◌, ◌-◌, ◌^◌, ◌||◌, min, Bool, false}
 
 -- a worker's counts, and its share of the pool's ledger: how many parts, and how many settled keys are booked on them
 pub record Counts : Type 0 where
@@ -30,6 +30,11 @@ joined s t = record {
   parts = s.parts + t.parts;
   booked = s.booked + t.booked;
 }
+
+-- the tally of the same worker, with the same parts of the ledger, where a server may have left the board
+pub record IsSameShare (s t : Counts) : Type 0 where
+  pub worker : t.worker ≡ s.worker
+  pub parts : t.parts ≡ s.parts
 
 -- the tally of the same worker, with the same parts of the ledger
 pub record IsSameTally (s t : Counts) : Type 0 where

@@ -71,7 +71,7 @@ fn settle_least<B: Book>(
 
 /// Settles the least open key until none is left, and writes what is ready before each, until the
 /// limit is reached.
-fn list_all<B: Book, K: Sink>(
+pub fn list_all<B: Book, K: Sink>(
     alloc: Global,
     writer: &mut Writer<'_, '_>,
     prober: &mut Prober<'_>,
@@ -86,6 +86,7 @@ fn list_all<B: Book, K: Sink>(
     requires book { B.shape book.old ≡ prober.old.geometry }
     requires set { All (IsCertificate prober.old.geometry) set.now }
     ensures listed { writer.new.listed ≡ writer.old.listed }
+    ensures same { prober.new ≡ prober.old }
     ensures on { OnOk result (GoesOn writer.old writer.new (record { before = K.taken out.old; after = K.taken out.new })) }
     ensures done { OnOk result (IsAtLimit writer.new.listed.limit writer.new.count ⊎ NoneIsLeft writer.new.listed.geometry writer.new.last) }
     ensures ends { IfErr result (EndsAs writer.old (record { before = K.taken out.old; after = K.taken out.new })) }

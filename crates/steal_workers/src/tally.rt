@@ -163,6 +163,13 @@ impl<L: Ledger> Tally<L> {
         self.blocked = self.blocked.saturating_add(more);
     }
 
+    /// The server leaves the board of its pool.
+    pub(crate) fn leave_board(&mut self)
+        ensures { self.new ≡ record self.old { alone = true } }
+    {
+        self.alone = true;
+    }
+
     /// The worker ends for want of memory.
     pub(crate) fn end_for_memory(&mut self)
         ensures { self.new ≡ record self.old { memory = true } }

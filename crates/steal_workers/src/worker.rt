@@ -1,16 +1,23 @@
 //! What a worker of a pool has for itself: the keys that it is to work, what it probes them with, and what it found.
-ghost use Rattle.std.specs.Prelude.{◌≡◌, ◌<◌, ◌≤◌, All, IfOk, IsTrue, ◌↔◌};
+ghost use Rattle.std.specs.Prelude.{◌≡◌, ◌<◌, ◌≤◌, ◌⊎◌, ◌↔◌, All, IfOk, IfErr, OnOk, Err, IsTrue};
+ghost use Rattle.io_edge.specs.Causes.{Rose};
 ghost use Rattle.ntfe_model.specs.Keys.{IsKey};
+ghost use Rattle.steal_workers.specs.Boards.{IsAbreast};
+ghost use Rattle.steal_workers.specs.Listings.{IsAtLimit, NoneIsLeft, GoesOn, EndsAs};
 ghost use Rattle.steal_workers.specs.Tallies.{IsSameTally};
 ghost use Rattle.steal_workers.specs.Shared.{IsSameListing};
 
+use crate::alone::list_all;
 use crate::found_keys::{FoundKey, settle_all};
 use crate::probing::Prober;
+use crate::served::Served;
 use crate::shared_board::SharedBoard;
 use crate::sizes::Sizes;
 use crate::tally::Tally;
-use choice_board::Verdict;
+use crate::writer::Writer;
+use choice_board::{Board, Verdict};
 use fine_stream::OwnBook;
+use io_edge::Sink;
 use nogood_set::NogoodSet;
 use nogood_store::{Reader, Store};
 use ntfe_model::{Geometry, ITEM_LIMIT, Key};
@@ -274,5 +281,34 @@ impl<'s, 'g> Worker<'s, 'g> {
             self.held.clear();
         }
         Ok(())
+    }
+
+    /// Goes on with a listing on one thread: the least open key of the board is probed and settled, and what the board
+    /// has ready is written. The keys that the worker holds take no part in that.
+    pub fn list_on<K: Sink>(
+        &mut self,
+        writer: &mut Writer<'_, '_>,
+        board: &mut Board,
+        out: &mut K,
+    ) -> Result<(), Served>
+        requires geometry { self.old.geometry ≡ writer.old.listed.geometry }
+        requires width { self.old.width ≡ writer.old.listed.width }
+        requires abreast { IsAbreast writer.old board.old }
+        ensures listed { writer.new.listed ≡ writer.old.listed }
+        ensures on { OnOk result (GoesOn writer.old writer.new (record { before = K.taken out.old; after = K.taken out.new })) }
+        ensures done { OnOk result (IsAtLimit writer.new.listed.limit writer.new.count ⊎ NoneIsLeft writer.new.listed.geometry writer.new.last) }
+        ensures ends { IfErr result (EndsAs writer.old (record { before = K.taken out.old; after = K.taken out.new })) }
+        ensures cause { result ≡ Err Served.WriteFault → Rose (K.faults out.old) (K.faults out.new) }
+        ensures later { K.faults out.old ≤ K.faults out.new }
+    {
+        list_all(
+            self.alloc,
+            writer,
+            &mut self.prober,
+            &mut self.book,
+            &self.set,
+            board,
+            out,
+        )
     }
 }

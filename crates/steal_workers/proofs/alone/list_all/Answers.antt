@@ -64,3 +64,12 @@ returns-in-Err-clause-ends g c earlier h =
     let listed = c.write_ready.ensures.listed ∙ i.2 in
     subst (λ (l : Listed). Rattle.steal_workers.specs.Listings.TakesPart l (record { before = earlier; after = g.K.Sink.taken c.write_ready.new.out })) listed
     (part_written c.write_ready.new.writer (record { before = earlier; after = g.K.Sink.taken c.write_ready.new.out }) (c.in_ok-write_ready.ensures.on earlier (i.0 earlier h)))
+
+pub returns-in_err-write_ready-clause-same : goal.returns-in_err-write_ready-clause-same
+returns-in_err-write_ready-clause-same g c = c.loop-writer.invariant.3
+
+pub returns-in-Ok-false-clause-same : goal.returns-in-Ok-false-clause-same
+returns-in-Ok-false-clause-same g c = c.settle_least.ensures.same ∙ c.loop-writer.invariant.3
+
+pub returns-in-Err-clause-same : goal.returns-in-Err-clause-same
+returns-in-Err-clause-same g c = c.settle_least.ensures.same ∙ c.loop-writer.invariant.3

@@ -1,13 +1,25 @@
-use Rattle.std.proofs.Common.{◌≡◌, sym, ap, ◌∙◌, subst, Ok}
-use Rattle.std.specs.Prelude.{Result}
+use Rattle.std.proofs.Common.{◌≡◌, refl, sym, ap, ◌∙◌, subst, inl, ℕ, List, Ok}
+use Rattle.std.specs.Prelude.{Option, Result}
+use Rattle.ntfe_model.specs.Shapes.{Shape}
+use Rattle.ntfe_model.specs.Keys.{IsStart}
+use Rattle.steal_workers.specs.Boards.{IsPlace}
 use Rattle.steal_workers.specs.Listings.{Listed, Progress, HasWritten, HasServed}
-use Rattle.steal_workers.specs.Pools.{IsListedBy}
+use Rattle.steal_workers.specs.Pools.{Pooled, IsListedBy}
 use Rattle.steal_workers.specs.declared.served.Served.{Served}
 use Rattle.steal_workers.proofs.Ends.{none_yet}
 use Rattle.steal_workers.proofs.pool.Pool.write_listing.Goals as goal
 
 pub write_outcomes-requires-clause-own : goal.write_outcomes-requires-clause-own
 write_outcomes-requires-clause-own g c = subst (λ (p : Progress). IsListedBy c.args.self.now p.listed) (sym c.in_ok-writer.ensures) c.requires.own
+
+pub write_outcomes-requires-clause-place : goal.write_outcomes-requires-clause-place
+write_outcomes-requires-clause-place g c =
+    let own = c.requires.own in
+    let near = subst (λ (p : Pooled). IsStart p.geometry p.start) c.self.view_is c.self.invariant.start in
+    subst (λ (p : Progress). IsPlace p.listed p.last) (sym c.in_ok-writer.ensures) record {
+      from = inl refl;
+      near = subst (λ (x : Shape × Option (List ℕ)). IsStart x.0 x.1) (λ i. (sym own.geometry i, sym own.start i)) near;
+    }
 
 pub returns-in-Ok-clause-served : goal.returns-in-Ok-clause-served
 returns-in-Ok-clause-served g c =

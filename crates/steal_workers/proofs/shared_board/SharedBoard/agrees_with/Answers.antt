@@ -1,4 +1,4 @@
-use Rattle.std.proofs.Common.{ap, ◌∙◌, sym, min, ◌^◌, ◌-◌}
+use Rattle.std.proofs.Common.{ap, ◌∙◌, min, ◌^◌, ◌-◌}
 use Rattle.steal_workers.specs.Tallies.{Counts}
 use Rattle.steal_workers.proofs.SharedBoards.{totals_agree}
 use Rattle.steal_workers.proofs.shared_board.SharedBoard.agrees_with.Goals as goal

@@ -1,5 +1,3 @@
-use Rattle.std.proofs.Common.{ap, ◌∙◌}
-use Rattle.choice_board.specs.States.{State}
 use Rattle.steal_workers.proofs.SharedBoards.{closed_shared}
 use Rattle.steal_workers.proofs.shared_board.SharedBoard.close.Goals as goal
 

@@ -1,5 +1,4 @@
 use Rattle.std.proofs.Common.{subst}
-use Rattle.choice_board.specs.States.{State}
 use Rattle.choice_board.specs.Telling.{IsHandedOut}
 use Rattle.steal_workers.specs.Boards.{IsOver}
 use Rattle.steal_workers.specs.Shared.{Shared, IsShared}

@@ -1,4 +1,4 @@
-use Rattle.std.proofs.Common.{◌≡◌, ap, subst, sym}
+use Rattle.std.proofs.Common.{subst, sym}
 use Rattle.steal_workers.specs.Probing.{IsVerdictOn}
 use Rattle.steal_workers.specs.Shared.{Shared}
 use Rattle.steal_workers.proofs.SharedBoards.{stale_shared, taken_shared}

@@ -1,5 +1,4 @@
-use Rattle.std.proofs.Common.{◌≡◌, sym, ap, ◌∙◌, ℕ}
-use Rattle.ntfe_model.specs.Shapes.{Shape}
+use Rattle.std.proofs.Common.{sym, ap, ◌∙◌}
 use Rattle.steal_workers.specs.Probing.{Probes}
 use Rattle.steal_workers.proofs.FoundKeys.{found_at}
 use Rattle.steal_workers.proofs.worker.Worker.settle_on.Goals as goal

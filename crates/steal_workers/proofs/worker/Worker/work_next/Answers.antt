@@ -1,6 +1,5 @@
-use Rattle.std.proofs.Common.{◌≡◌, ◌∙◌, sym, ap, [], ◌∷◌, ◌++◌, ℕ}
-use Rattle.ntfe_model.specs.Shapes.{Shape}
-use Rattle.steal_workers.specs.Probing.{Probes, IsVerdictOn}
+use Rattle.std.proofs.Common.{◌≡◌, ◌∙◌, sym, [], ◌∷◌, ◌++◌}
+use Rattle.steal_workers.specs.Probing.{IsVerdictOn}
 use Rattle.steal_workers.specs.declared.found_keys.FoundKey.{FoundKey}
 use Rattle.steal_workers.proofs.FoundKeys.{more_found, verdict_at}
 use Rattle.steal_workers.proofs.worker.Worker.work_next.Goals as goal
