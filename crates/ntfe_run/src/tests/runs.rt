@@ -1,8 +1,8 @@
-//! Whole runs on one thread. The program itself calls `run`, and the cases are run on it.
+//! Whole runs, most of them on one thread. The program itself calls `run`, and the cases are run on it.
 
-use crate::run_alone;
 use crate::tests::pairs::{PYRAMID, SIMPLEX, SQUARES};
-use io_edge::{MemorySink, MemorySource, Sink, SliceSource, Source};
+use crate::{run, run_alone};
+use io_edge::{MemorySink, MemorySource, OpenGate, Sink, SliceSource, Source};
 use std::alloc::{AllocError, Global};
 
 /// What a run wrote, and how it ended.
@@ -66,6 +66,28 @@ fn the_first_class_with_its_star(rt: HostRuntime) -> Result<(), AllocError> {
     )?;
     assert!(rt; all.code == 0);
     assert!(rt; all.out.bytes().ends_with(b"simplex 3 5 6 7\nlimit 1\n"));
+    Ok(())
+}
+
+#[test]
+fn two_workers_beside_the_server(rt: HostRuntime) -> Result<(), AllocError> {
+    let words = owned(rt.alloc(), &["classes", "--workers", "2"])?;
+    let mut source = SliceSource {
+        bytes: PYRAMID.as_bytes(),
+    };
+    let mut out = MemorySink::new(rt.alloc(), 9999, Vec::new(rt.alloc()))?;
+    let mut err = MemorySink::new(rt.alloc(), 999, Vec::new(rt.alloc()))?;
+    let status = run(
+        &rt,
+        rt.alloc(),
+        words.as_slice(),
+        &mut source,
+        &mut out,
+        &mut err,
+        &OpenGate,
+    );
+    assert!(rt; status.code() == 0);
+    assert!(rt; out.bytes().ends_with(b"heights 0 0 0 -1 0 0 0\nend 2\n"));
     Ok(())
 }
 
