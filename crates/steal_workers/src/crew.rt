@@ -7,6 +7,31 @@ pub struct Crew {
     alive: u16,
     /// Those that hold keys, as they told last.
     busy: u16,
+    /// Those of them that are held back, since too many classes are found ahead of those that were written.
+    held_back: u16,
+}
+
+/// What a worker tells of itself.
+#[derive(Clone, Copy, Drop)]
+pub enum Told {
+    /// It holds no key.
+    Idle,
+    /// It works the keys that it holds.
+    Works,
+    /// It holds keys, and waits until more classes were written.
+    HeldBack,
+}
+
+impl Told {
+    /// Whether it holds keys.
+    fn is_busy(self) -> bool {
+        !matches!(self, Told::Idle)
+    }
+
+    /// Whether it is held back.
+    pub fn is_held_back(self) -> bool {
+        matches!(self, Told::HeldBack)
+    }
 }
 
 /// What a worker is told when it has settled what it found.
@@ -28,7 +53,11 @@ const AHEAD_MOST: u64 = 256;
 impl Crew {
     /// Nobody.
     pub const fn new() -> Crew {
-        Crew { alive: 0, busy: 0 }
+        Crew {
+            alive: 0,
+            busy: 0,
+            held_back: 0,
+        }
     }
 
     /// Whether a worker is alive.
@@ -41,28 +70,38 @@ impl Crew {
         self.busy > 0
     }
 
+    /// Whether a worker holds keys and is not held back.
+    pub fn is_working(self) -> bool {
+        self.busy > self.held_back
+    }
+
     /// The crew with one worker more.
     pub fn with_one(self) -> Crew {
         Crew {
             alive: self.alive.saturating_add(1),
-            busy: self.busy,
+            ..self
         }
     }
 
-    /// The crew without a worker that held keys or not.
-    pub fn without_one(self, busy: bool) -> Crew {
+    /// The crew without a worker that told this last.
+    pub fn without_one(self, told: Told) -> Crew {
+        let rest = self.with_told(told, Told::Idle);
         Crew {
-            alive: self.alive.saturating_sub(1),
-            busy: self.busy.saturating_sub(u16::from(busy)),
+            alive: rest.alive.saturating_sub(1),
+            ..rest
         }
     }
 
-    /// The crew where a worker tells that it holds keys or not, and told otherwise before.
-    pub fn with_busy(self, before: bool, now: bool) -> Crew {
-        let others = self.busy.saturating_sub(u16::from(before));
+    /// The crew where a worker tells what it does, and told something else before.
+    pub fn with_told(self, before: Told, now: Told) -> Crew {
+        let busy = self.busy.saturating_sub(u16::from(before.is_busy()));
+        let held_back = self
+            .held_back
+            .saturating_sub(u16::from(before.is_held_back()));
         Crew {
             alive: self.alive,
-            busy: others.saturating_add(u16::from(now)),
+            busy: busy.saturating_add(u16::from(now.is_busy())),
+            held_back: held_back.saturating_add(u16::from(now.is_held_back())),
         }
     }
 

@@ -7,7 +7,7 @@ ghost use Rattle.steal_workers.specs.Pools.{probes_of};
 ghost use Rattle.steal_workers.specs.Shared.{IsLook};
 ghost use Rattle.steal_workers.specs.Tallies.{IsSameTally};
 
-use crate::crew::News;
+use crate::crew::{News, Told};
 use crate::listing::Listing;
 use crate::look::Look;
 use crate::shared_board::SharedBoard;
@@ -149,10 +149,11 @@ impl<'g, L: Ledger> Pool<'g, L> {
             return Ok(None);
         }
         worker.settle_on(board, mine)?;
-        let busy = !worker.is_idle();
-        board.set_crew(board.crew().with_busy(worker.is_counted(), busy));
-        worker.count(busy);
-        Ok(Some(board.news()))
+        let news = board.news();
+        let doing = worker.doing(&news, board.least());
+        board.set_crew(board.crew().with_told(worker.told(), doing));
+        worker.tell(doing);
+        Ok(Some(news))
     }
 
     /// A copy of the least open key for a worker that has found no other, where no worker is busy; then it counts as busy.
@@ -173,8 +174,35 @@ impl<'g, L: Ledger> Pool<'g, L> {
             return Ok(Found::Nothing);
         }
         worker.hold(key.try_clone(self.alloc)?)?;
-        board.set_crew(crew.with_busy(worker.is_counted(), true));
-        worker.count(true);
+        board.set_crew(crew.with_told(worker.told(), Told::Works));
+        worker.tell(Told::Works);
+        Ok(Found::Key)
+    }
+
+    /// Whether a worker that is held back goes on. Where it was held back for long, and no worker works, it holds a copy
+    /// of the least open key, which none may hold.
+    pub(crate) fn go_on<R: Wait>(
+        &self,
+        rt: &R,
+        worker: &mut Worker<'_, 'g>,
+    ) -> Result<Found, AllocError>
+        ensures { worker.new ≡ worker.old }
+    {
+        let mut guard = self.locked.lock(rt);
+        let board = &mut *guard;
+        let crew = board.crew();
+        let news = board.news();
+        let Some(key) = board.least() else {
+            return Ok(Found::End);
+        };
+        if worker.doing(&news, Some(key)).is_held_back() {
+            if crew.is_working() || news.ready || !worker.has_waited_long() {
+                return Ok(Found::Nothing);
+            }
+            worker.hold(key.try_clone(self.alloc)?)?;
+        }
+        board.set_crew(crew.with_told(worker.told(), Told::Works));
+        worker.tell(Told::Works);
         Ok(Found::Key)
     }
 
@@ -185,11 +213,11 @@ impl<'g, L: Ledger> Pool<'g, L> {
         board.set_crew(board.crew().with_one());
     }
 
-    /// A worker ends, which counted as busy or not.
-    pub(crate) fn leave<R: Wait>(&self, rt: &R, busy: bool) {
+    /// A worker ends, which told this last.
+    pub(crate) fn leave<R: Wait>(&self, rt: &R, told: Told) {
         let mut guard = self.locked.lock(rt);
         let board = &mut *guard;
-        board.set_crew(board.crew().without_one(busy));
+        board.set_crew(board.crew().without_one(told));
     }
 
     /// Whether a worker is alive.

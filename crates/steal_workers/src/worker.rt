@@ -8,6 +8,7 @@ ghost use Rattle.steal_workers.specs.Tallies.{IsSameTally};
 ghost use Rattle.steal_workers.specs.Shared.{IsSameListing};
 
 use crate::alone::list_all;
+use crate::crew::{News, Told};
 use crate::found_keys::{FoundKey, settle_all};
 use crate::probing::Prober;
 use crate::served::Served;
@@ -22,6 +23,7 @@ use nogood_set::NogoodSet;
 use nogood_store::{Reader, Store};
 use ntfe_model::{Geometry, ITEM_LIMIT, Key};
 use std::alloc::{AllocError, Global};
+use std::cmp::Ordering;
 use std::collections::VecDeque;
 use std::marker::Model;
 use std::sync::Wait;
@@ -38,6 +40,9 @@ const TURN_MOST: u32 = 32;
 
 /// The least size of a key that is offered to others, as a power of two.
 const OFFERED_BITS: u32 = 3;
+
+/// How often a worker is held back while no worker works, until it takes the least open key.
+const WAITS_MOST: u32 = 50;
 
 /// What a worker has for itself.
 #[derive(Drop)]
@@ -56,8 +61,10 @@ pub struct Worker<'s, 'g> {
     found: VecDeque<FoundKey>,
     /// How many keys it works in its next turn.
     turn: u32,
-    /// Whether it counts as busy on the board of its pool.
-    counted: bool,
+    /// What it told last of itself on the board of its pool.
+    told: Told,
+    /// How often it was held back since it worked last, while no worker worked.
+    waits: u32,
 }
 
 impl<'s, 'g> Model for Worker<'s, 'g> {
@@ -131,7 +138,8 @@ impl<'s, 'g> Worker<'s, 'g> {
             held: Vec::new(alloc),
             found: VecDeque::new(alloc),
             turn: 1,
-            counted: false,
+            told: Told::Idle,
+            waits: 0,
         })
     }
 
@@ -156,16 +164,48 @@ impl<'s, 'g> Worker<'s, 'g> {
         self.held.is_empty()
     }
 
-    /// Whether it counts as busy on the board of its pool.
-    pub fn is_counted(&self) -> bool {
-        self.counted
+    /// What it told last of itself on the board of its pool.
+    pub fn told(&self) -> Told {
+        self.told
     }
 
-    /// It counts as busy from now on, or not.
-    pub fn count(&mut self, busy: bool)
+    /// It tells this of itself.
+    pub fn tell(&mut self, told: Told)
         ensures { self.new ≡ self.old }
     {
-        self.counted = busy;
+        self.told = told;
+        self.waits = 0;
+    }
+
+    /// Whether it was held back for long while no worker worked. It counts this time too.
+    pub fn has_waited_long(&mut self) -> bool
+        ensures { self.new ≡ self.old }
+    {
+        self.waits = self.waits.saturating_add(1);
+        self.waits > WAITS_MOST
+    }
+
+    /// What it does next, where this is the least open key. It is held back where no more classes may be found, but
+    /// for the one that holds the least open key while nothing can be handed out.
+    pub fn doing(&self, news: &News, least: Option<&Key>) -> Told {
+        let Some(next) = self.held.last() else {
+            return Told::Idle;
+        };
+        if news.room > 0 {
+            return Told::Works;
+        }
+        match least {
+            Some(key) if !news.ready && key.0.as_slice() == next.0.as_slice() => Told::Works,
+            _ => Told::HeldBack,
+        }
+    }
+
+    /// Whether the key comes before the one that it works next, or it holds none.
+    pub fn comes_first(&self, key: &Key) -> bool {
+        match self.held.last() {
+            Some(next) => key.0.as_slice().cmp(next.0.as_slice()) == Ordering::Less,
+            None => true,
+        }
     }
 
     /// Holds the key, which is worked next.

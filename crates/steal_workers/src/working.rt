@@ -34,15 +34,32 @@ fn put_offer(seat: &mut Seat, worker: &mut Worker<'_, '_>, key: Key)
     }
 }
 
-/// Offers held keys to the neighbour, where the deque is empty. True where a key was offered.
+/// Takes back the offered keys that come before the one that the worker works next, so that it works what it holds
+/// in order. True where an offered key is left.
+fn take_back(seat: &mut Seat, worker: &mut Worker<'_, '_>) -> bool
+    ensures seat { IsSameSeat seat.old seat.new }
+    ensures worker { worker.new ≡ worker.old }
+{
+    let mut any = false;
+    for _offer in 0..OFFERS {
+        let Some(key) = seat.pop() else {
+            break;
+        };
+        if worker.comes_first(&key) {
+            let _ = worker.hold(key);
+        } else {
+            put_offer(seat, worker, key);
+            any = true;
+        }
+    }
+    any
+}
+
+/// Offers held keys to the neighbour. True where a key was offered.
 fn offer(seat: &mut Seat, worker: &mut Worker<'_, '_>, room: u64) -> bool
     ensures seat { IsSameSeat seat.old seat.new }
     ensures worker { worker.new ≡ worker.old }
 {
-    if let Some(key) = seat.pop() {
-        put_offer(seat, worker, key);
-        return false;
-    }
     let mut any = false;
     for _offer in 0..OFFERS {
         let Some(key) = worker.offered(room) else {
@@ -110,7 +127,7 @@ impl<'g, L: Ledger> Pool<'g, L> {
         self.enter(rt);
         let ended = self.take_turns(rt, seat, &mut worker, mine, gate);
         mine.count_blocked(worker.blocked());
-        self.leave(rt, worker.is_counted());
+        self.leave(rt, worker.told());
         ended
     }
 
@@ -170,15 +187,18 @@ impl<'g, L: Ledger> Pool<'g, L> {
         ensures worker { worker.new ≡ worker.old }
         ensures seat { IsSameSeat seat.old seat.new }
     {
-        if !worker.is_idle() {
-            return Ok(Found::Key);
-        }
         let seen = self.offers.notifications();
-        if let Some(key) = take_offer(seat) {
-            worker.hold(key)?;
+        let found = if worker.is_idle() {
+            if let Some(key) = take_offer(seat) {
+                worker.hold(key)?;
+                return Ok(Found::Key);
+            }
+            self.least_key(rt, worker)?
+        } else if worker.told().is_held_back() {
+            self.go_on(rt, worker)?
+        } else {
             return Ok(Found::Key);
-        }
-        let found = self.least_key(rt, worker)?;
+        };
         if let Found::Nothing = found {
             self.offers
                 .sleep(rt, seen, Duration::from_micros(IDLE_MICROS));
@@ -203,14 +223,15 @@ impl<'g, L: Ledger> Pool<'g, L> {
     {
         worker.refresh(&self.store)?;
         worker.work(rt, &self.store)?;
+        let offers_left = take_back(seat, worker);
         let Some(news) = self.settle_found(rt, worker, mine)? else {
             return Ok(false);
         };
         if news.ready || !news.open {
             self.outcomes.notify_one();
         }
-        if offer(seat, worker, news.room) {
-            self.offers.notify_one();
+        if !offers_left && offer(seat, worker, news.room) {
+            self.offers.notify_all();
         }
         Ok(news.open)
     }
