@@ -1,0 +1,3 @@
+pub mod TakenItems
+pub mod SegmentLemmas
+pub mod HandLemmas

@@ -1,0 +1,3 @@
+pub mod Segments
+pub mod Taken
+pub mod Hands
