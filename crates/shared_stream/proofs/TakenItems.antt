@@ -1,6 +1,7 @@
 -- Items that come one after the other from a stream.
 use Rattle.std.proofs.Common.{◌≡◌, ℕ, zero, suc, ◌+◌, ◌<◌, ◌≤◌, ◌⊎◌, inl, inr, ⊎_elim, refl, sym, ap, ◌∙◌, subst, arith, List, [], ◌∷◌, ◌++◌, length, Bool, true, false, Option, Some, None}
 use Rattle.std.specs.Prelude.{slice_get, is_some, not, MatchBool}
+use Rattle.std.proofs.lemmas.List.{length_push}
 use Rattle.ntfe_model.specs.Charts.{Patch}
 use Rattle.ntfe_model.specs.Words.{IsItem, HasItemAt}
 use Rattle.ntfe_model.specs.declared.triangulation.Triangulation.{Triangulation}
@@ -22,10 +23,6 @@ last_item [] x (suc k) y e = cc
 last_item (z ∷ zs) x zero y e = inl e
 last_item (z ∷ zs) x (suc k) y e = ⊎_elim (λ p. inl p) (λ p. inr (ap suc p.0, p.1)) (last_item zs x k y e)
 
-one_longer : (xs : List Triangulation) (x : Triangulation) → length (xs ++ x ∷ []) ≡ length xs + 1
-one_longer [] x = refl
-one_longer (z ∷ zs) x = let e = one_longer zs x in omega arith
-
 answer_item : (c d : Cursor) (o : Option Triangulation) (x : Triangulation) → IsNextItem c d o → o ≡ Some x → (n : ℕ) → StandsBefore c n → StandsBefore d (n + 1) × IsItem c.patch n x
 answer_item c d o x a e n s =
     let P : Option Triangulation → Type 0 = λ q. IsNextItem c d q in let b : IsNextItem c d (Some x) = subst P e a in b.1 n s
@@ -39,7 +36,7 @@ one_taken h n c d o x xs ys p a e is t =
     let P : List Triangulation → Type 0 = λ vs. AreTaken h n d vs in
     let b = answer_item c d o x a e (n + length xs) t.stands in
     let Q : ℕ → Type 0 = λ m. StandsBefore d m in
-    let l = one_longer xs x in
+    let l = length_push xs x in
     let R : Patch → Type 0 = λ q. IsItem q (n + length xs) x in
     let i : IsItem h (n + length xs) x = subst R p b.1 in
     subst P (sym is) (record {
@@ -78,7 +75,7 @@ pub taking_one : (turn : ℕ) (b c d : Cursor) (o : Option Triangulation) (x : T
     → IsTaking (turn + 1) b d ys
 taking_one turn b c d o x xs ys t p a e is = record {
   patch = p ∙ t.patch;
-  count = ap length is ∙ one_longer xs x ∙ ap (λ k. k + 1) t.count;
+  count = ap length is ∙ length_push xs x ∙ ap (λ k. k + 1) t.count;
   taken = λ n s. one_taken b.patch n c d o x xs ys t.patch a e is (t.taken n s);
 }
 

@@ -3,10 +3,15 @@
 
 mod cells;
 mod handed;
+mod held;
 mod segment;
 mod shelf;
+mod shelf_book;
 mod taking;
+#[cfg(test)]
+mod tests;
 
 pub use handed::Handed;
 pub use segment::Segment;
 pub use shelf::Shelf;
+pub use shelf_book::ShelfBook;
