@@ -1,0 +1,5 @@
+pub mod TakenItems
+pub mod SegmentLemmas
+pub mod HandLemmas
+pub mod HeldLemmas
+pub mod LentRows

@@ -1,0 +1,4 @@
+pub mod Segments
+pub mod Taken
+pub mod Hands
+pub mod Held
