@@ -10,7 +10,7 @@ use Rattle.fine_stream.specs.declared.position.Position.{Position}
 use Rattle.fine_stream.specs.declared.position.Position.TheVariants.{End}
 use Rattle.fine_stream.proofs.Numbers.{end_none}
 
-last_item : (xs : List Triangulation) (x : Triangulation) (k : ℕ) (y : Triangulation) → slice_get (xs ++ x ∷ []) k ≡ Some y → (slice_get xs k ≡ Some y) ⊎ ((k ≡ length xs) × (y ≡ x))
+pub last_item : (xs : List Triangulation) (x : Triangulation) (k : ℕ) (y : Triangulation) → slice_get (xs ++ x ∷ []) k ≡ Some y → (slice_get xs k ≡ Some y) ⊎ ((k ≡ length xs) × (y ≡ x))
 last_item [] x zero y e = inr (refl, (let f : y ≡ x = cc in f))
 last_item [] x (suc k) y e = cc
 last_item (z ∷ zs) x zero y e = inl e
@@ -25,11 +25,11 @@ kept_longer [] more k x e = cc
 kept_longer (z ∷ zs) more zero x e = e
 kept_longer (z ∷ zs) more (suc k) x e = kept_longer zs more k x e
 
-answer_item : (c d : Cursor) (o : Option Triangulation) (x : Triangulation) → IsNextItem c d o → o ≡ Some x → (n : ℕ) → StandsBefore c n → StandsBefore d (n + 1) × IsItem c.patch n x
+pub answer_item : (c d : Cursor) (o : Option Triangulation) (x : Triangulation) → IsNextItem c d o → o ≡ Some x → (n : ℕ) → StandsBefore c n → StandsBefore d (n + 1) × IsItem c.patch n x
 answer_item c d o x a e n s =
     let P : Option Triangulation → Type 0 = λ q. IsNextItem c d q in let b : IsNextItem c d (Some x) = subst P e a in b.1 n s
 
-answer_none : (c d : Cursor) (o : Option Triangulation) → IsNextItem c d o → o ≡ None → (d.position ≡ End) × ((n : ℕ) → StandsBefore c n → StandsBefore d n × (¬ (HasItemAt c.patch n)))
+pub answer_none : (c d : Cursor) (o : Option Triangulation) → IsNextItem c d o → o ≡ None → (d.position ≡ End) × ((n : ℕ) → StandsBefore c n → StandsBefore d n × (¬ (HasItemAt c.patch n)))
 answer_none c d o a e = let P : Option Triangulation → Type 0 = λ q. IsNextItem c d q in let b : IsNextItem c d None = subst P e a in b
 
 pub row_longer : (c d : Cursor) (o : Option Triangulation) (x : Triangulation) (xs ys zs : List Triangulation) → IsRow c xs → d.patch ≡ c.patch → IsNextItem c d o → o ≡ Some x → ys ≡ xs → zs ≡ ys ++ x ∷ []

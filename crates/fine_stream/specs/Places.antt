@@ -65,3 +65,8 @@ pub record AreTables (h : Patch) (x : Tables) : Type 0 where
 -- the path has the places of its triples in the table
 abbrev pub ArePlaced : Tables → Path → Type 0
 ArePlaced x p = ArePlaces x.triples.items p.places.items p.triangles.items
+
+-- what a contract sees of a two-face with its tables
+pub record TabledFace : Type 0 where
+  pub patch : Patch
+  pub tables : Tables

@@ -113,7 +113,7 @@ some_below c vs e x h l = let a = h.lowest in (a.0, a.1, a.2, a.3, (let q = a.4 
 some_above : (c : Vector → ℤ) (vs : List Vector) (e : Extent) (x : ℤ) → IsExtentOf c vs e → x ≤ℤ e.high → Any (λ v. x ≤ℤ c v) vs
 some_above c vs e x h l = let a = h.highest in (a.0, a.1, a.2, a.3, (let q = a.4 in omega (arith, ints)))
 
-pub extent_size : (e : Extent) → IsSmallExtent e → AreWithin (2 ^ 23) (e.low ∷ e.high ∷ [])
+pub extent_size : (e : Extent) → IsSmallExtent e → AreWithin (2 ^ 33) (e.low ∷ e.high ∷ [])
 extent_size e s = ((let a = s.low in let b = s.some in let c = s.high in omega (arith, ints)), ((let a = s.low in let b = s.some in let c = s.high in omega (arith, ints)), tt))
 
 pub extent_span : (e : Extent) → IsSmallExtent e → e.low ≤ℤ e.high → (e.high -ℤ e.low) ≤ℤ pos 2046

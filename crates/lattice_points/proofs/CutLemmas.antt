@@ -28,57 +28,57 @@ divides z s e h = let P : ℤ → Type 0 = λ y. 0 < of_z w64 y in subst P (sym 
 
 -- ---- exact numbers
 
-pub short_back : (z : ℤ) → unsigned_abs z ≤ 2 ^ 24 → to_z w64 (of_z w64 z) ≡ z
-short_back z h = back w64 z (2 ^ 24) h (omega arith)
+pub short_back : (z : ℤ) → unsigned_abs z ≤ 2 ^ 34 → to_z w64 (of_z w64 z) ≡ z
+short_back z h = back w64 z (2 ^ 34) h (omega arith)
 
-pub short_fits : (z : ℤ) → unsigned_abs z ≤ 2 ^ 24 → FitsSigned w64 z
+pub short_fits : (z : ℤ) → unsigned_abs z ≤ 2 ^ 34 → FitsSigned w64 z
 short_fits z h = fits_signed_from_abs w64 z (omega arith)
 
-pub end_fits : (high : ℤ) → unsigned_abs high ≤ 2 ^ 23 → FitsSigned w64 (to_z w64 (of_z w64 high) +ℤ pos 1)
-end_fits high h = fits w64 (high ∷ []) (2 ^ 23 ∷ []) (h, tt) (plus (var 0) (num (pos 1))) refl
+pub end_fits : (high : ℤ) → unsigned_abs high ≤ 2 ^ 33 → FitsSigned w64 (to_z w64 (of_z w64 high) +ℤ pos 1)
+end_fits high h = fits w64 (high ∷ []) (2 ^ 33 ∷ []) (h, tt) (plus (var 0) (num (pos 1))) refl
 
-end_is : (high : ℤ) → unsigned_abs high ≤ 2 ^ 23 → to_z w64 (of_z w64 (to_z w64 (of_z w64 high) +ℤ pos 1)) ≡ high +ℤ pos 1
-end_is high h = exact w64 (high ∷ []) (2 ^ 23 ∷ []) (h, tt) (plus (var 0) (num (pos 1))) refl
+end_is : (high : ℤ) → unsigned_abs high ≤ 2 ^ 33 → to_z w64 (of_z w64 (to_z w64 (of_z w64 high) +ℤ pos 1)) ≡ high +ℤ pos 1
+end_is high h = exact w64 (high ∷ []) (2 ^ 33 ∷ []) (h, tt) (plus (var 0) (num (pos 1))) refl
 
 -- the test of a loop that goes up to the upper end
-pub not_past : (z high : ℤ) → unsigned_abs high ≤ 2 ^ 23 → lt_z z (to_z w64 (of_z w64 (to_z w64 (of_z w64 high) +ℤ pos 1))) ≡ true → z ≤ℤ high
+pub not_past : (z high : ℤ) → unsigned_abs high ≤ 2 ^ 33 → lt_z z (to_z w64 (of_z w64 (to_z w64 (of_z w64 high) +ℤ pos 1))) ≡ true → z ≤ℤ high
 not_past z high h t =
     let k : z <ℤ (high +ℤ pos 1) = below_from_test z (high +ℤ pos 1) (subst (λ (y : ℤ). lt_z z y ≡ true) (end_is high h) t) in
     omega (arith, ints)
 
-pub past : (z high : ℤ) → unsigned_abs high ≤ 2 ^ 23 → lt_z z (to_z w64 (of_z w64 (to_z w64 (of_z w64 high) +ℤ pos 1))) ≡ false → high <ℤ z
+pub past : (z high : ℤ) → unsigned_abs high ≤ 2 ^ 33 → lt_z z (to_z w64 (of_z w64 (to_z w64 (of_z w64 high) +ℤ pos 1))) ≡ false → high <ℤ z
 past z high h t =
     let k : (high +ℤ pos 1) ≤ℤ z = least_from_test z (high +ℤ pos 1) (subst (λ (y : ℤ). lt_z z y ≡ false) (end_is high h) t) in
     omega (arith, ints)
 
-pub next_fits : (level : ℤ) → unsigned_abs level ≤ 2 ^ 22 → FitsSigned w64 (to_z w64 (of_z w64 level) +ℤ pos 1)
-next_fits level h = fits w64 (level ∷ []) (2 ^ 22 ∷ []) (h, tt) (plus (var 0) (num (pos 1))) refl
+pub next_fits : (level : ℤ) → unsigned_abs level ≤ 2 ^ 32 → FitsSigned w64 (to_z w64 (of_z w64 level) +ℤ pos 1)
+next_fits level h = fits w64 (level ∷ []) (2 ^ 32 ∷ []) (h, tt) (plus (var 0) (num (pos 1))) refl
 
-next_is : (level : ℤ) → unsigned_abs level ≤ 2 ^ 22 → to_z w64 (of_z w64 (to_z w64 (of_z w64 level) +ℤ pos 1)) ≡ level +ℤ pos 1
-next_is level h = exact w64 (level ∷ []) (2 ^ 22 ∷ []) (h, tt) (plus (var 0) (num (pos 1))) refl
+next_is : (level : ℤ) → unsigned_abs level ≤ 2 ^ 32 → to_z w64 (of_z w64 (to_z w64 (of_z w64 level) +ℤ pos 1)) ≡ level +ℤ pos 1
+next_is level h = exact w64 (level ∷ []) (2 ^ 32 ∷ []) (h, tt) (plus (var 0) (num (pos 1))) refl
 
-pub opposite_is : (z : ℤ) → unsigned_abs z ≤ 2 ^ 23 → to_z w64 (of_z w64 (pos 0 -ℤ to_z w64 (of_z w64 z))) ≡ pos 0 -ℤ z
-opposite_is z h = exact w64 (z ∷ []) (2 ^ 23 ∷ []) (h, tt) (minus (num (pos 0)) (var 0)) refl
+pub opposite_is : (z : ℤ) → unsigned_abs z ≤ 2 ^ 33 → to_z w64 (of_z w64 (pos 0 -ℤ to_z w64 (of_z w64 z))) ≡ pos 0 -ℤ z
+opposite_is z h = exact w64 (z ∷ []) (2 ^ 33 ∷ []) (h, tt) (minus (num (pos 0)) (var 0)) refl
 
-pub opposite_fits : (z : ℤ) → unsigned_abs z ≤ 2 ^ 23 → FitsSigned w64 (pos 0 -ℤ to_z w64 (of_z w64 z))
-opposite_fits z h = fits w64 (z ∷ []) (2 ^ 23 ∷ []) (h, tt) (minus (num (pos 0)) (var 0)) refl
+pub opposite_fits : (z : ℤ) → unsigned_abs z ≤ 2 ^ 33 → FitsSigned w64 (pos 0 -ℤ to_z w64 (of_z w64 z))
+opposite_fits z h = fits w64 (z ∷ []) (2 ^ 33 ∷ []) (h, tt) (minus (num (pos 0)) (var 0)) refl
 
 -- the quotient that the code computes
-pub quotient_from : (q level d s : ℤ) → unsigned_abs level ≤ 2 ^ 22 → d ≡ s → q ≡ int_div_euclid (to_z w64 (of_z w64 (to_z w64 (of_z w64 level) +ℤ pos 1))) d → q ≡ int_div_euclid (level +ℤ pos 1) s
+pub quotient_from : (q level d s : ℤ) → unsigned_abs level ≤ 2 ^ 32 → d ≡ s → q ≡ int_div_euclid (to_z w64 (of_z w64 (to_z w64 (of_z w64 level) +ℤ pos 1))) d → q ≡ int_div_euclid (level +ℤ pos 1) s
 quotient_from q level d s h e f = f ∙ (λ i. int_div_euclid (next_is level h i) (e i))
 
 abbrev reachE : Expression
 reachE = plus (var 0) (times (var 1) (var 2))
 
-module _ (level slope z : ℤ) (hl : unsigned_abs level ≤ 2 ^ 22) (hs : unsigned_abs slope ≤ 1023) (hz : unsigned_abs z ≤ 2 ^ 23) where
+module _ (level slope z : ℤ) (hl : unsigned_abs level ≤ 2 ^ 32) (hs : unsigned_abs slope ≤ 2 ^ 21) (hz : unsigned_abs z ≤ 2 ^ 33) where
   pub product_fits : FitsSigned w64 (raw w64 (level ∷ slope ∷ z ∷ []) (times (var 1) (var 2)))
-  product_fits = fits w64 (level ∷ slope ∷ z ∷ []) (2 ^ 22 ∷ 1023 ∷ 2 ^ 23 ∷ []) (hl, (hs, (hz, tt))) (times (var 1) (var 2)) refl
+  product_fits = fits w64 (level ∷ slope ∷ z ∷ []) (2 ^ 32 ∷ 2 ^ 21 ∷ 2 ^ 33 ∷ []) (hl, (hs, (hz, tt))) (times (var 1) (var 2)) refl
 
   pub reach_fits : FitsSigned w64 (raw w64 (level ∷ slope ∷ z ∷ []) reachE)
-  reach_fits = fits w64 (level ∷ slope ∷ z ∷ []) (2 ^ 22 ∷ 1023 ∷ 2 ^ 23 ∷ []) (hl, (hs, (hz, tt))) reachE refl
+  reach_fits = fits w64 (level ∷ slope ∷ z ∷ []) (2 ^ 32 ∷ 2 ^ 21 ∷ 2 ^ 33 ∷ []) (hl, (hs, (hz, tt))) reachE refl
 
   reach_is : machine w64 (level ∷ slope ∷ z ∷ []) reachE ≡ level +ℤ slope *ℤ z
-  reach_is = exact w64 (level ∷ slope ∷ z ∷ []) (2 ^ 22 ∷ 1023 ∷ 2 ^ 23 ∷ []) (hl, (hs, (hz, tt))) reachE refl
+  reach_is = exact w64 (level ∷ slope ∷ z ∷ []) (2 ^ 32 ∷ 2 ^ 21 ∷ 2 ^ 33 ∷ []) (hl, (hs, (hz, tt))) reachE refl
 
   pub reach_low : lt_z (machine w64 (level ∷ slope ∷ z ∷ []) reachE) (negsuc 0) ≡ true → (level +ℤ slope *ℤ z) <ℤ negsuc 0
   reach_low h = below_from_test _ _ (let P : ℤ → Type 0 = λ y. lt_z y (negsuc 0) ≡ true in subst P reach_is h)
@@ -174,7 +174,7 @@ quotient_bound (pos n) t p = quotient_size t n (omega (arith, ints))
 quotient_bound (negsuc n) t p = absurd (omega (arith, ints))
 
 -- the quotient is a short number
-pub quotient_short : (q level s : ℤ) → pos 0 <ℤ s → unsigned_abs level ≤ 2 ^ 22 → q ≡ int_div_euclid (level +ℤ pos 1) s → unsigned_abs q ≤ 2 ^ 23
+pub quotient_short : (q level s : ℤ) → pos 0 <ℤ s → unsigned_abs level ≤ 2 ^ 32 → q ≡ int_div_euclid (level +ℤ pos 1) s → unsigned_abs q ≤ 2 ^ 33
 quotient_short q level s p h e =
     let b = quotient_bound s (level +ℤ pos 1) p in
     let c : unsigned_abs q ≤ unsigned_abs (level +ℤ pos 1) = (let P : ℤ → Type 0 = λ y. unsigned_abs y ≤ unsigned_abs (level +ℤ pos 1) in subst P (sym e) b) in
@@ -244,10 +244,10 @@ cut_same r left level slope a b e f h x =
     subst P (λ i. e i +ℤ f i *ℤ x) (h x)
 
 -- nothing lies in an extent whose ends have passed each other
-pub empty_extent : (e : Extent) → AreWithin (2 ^ 23) (e.low ∷ e.high ∷ []) → lt_z (to_z w64 (of_z w64 e.high)) (to_z w64 (of_z w64 e.low)) ≡ true → (x : ℤ) → IsWithin e x → ⊥
+pub empty_extent : (e : Extent) → AreWithin (2 ^ 33) (e.low ∷ e.high ∷ []) → lt_z (to_z w64 (of_z w64 e.high)) (to_z w64 (of_z w64 e.low)) ≡ true → (x : ℤ) → IsWithin e x → ⊥
 empty_extent e s t x w =
-    let a : unsigned_abs e.low ≤ 2 ^ 24 = (let h = s.0 in omega arith) in
-    let b : unsigned_abs e.high ≤ 2 ^ 24 = (let h = s.1.0 in omega arith) in
+    let a : unsigned_abs e.low ≤ 2 ^ 34 = (let h = s.0 in omega arith) in
+    let b : unsigned_abs e.high ≤ 2 ^ 34 = (let h = s.1.0 in omega arith) in
     let k : e.high <ℤ to_z w64 (of_z w64 e.low) = below_from_test e.high (to_z w64 (of_z w64 e.low)) (subst (λ (y : ℤ). lt_z y (to_z w64 (of_z w64 e.low)) ≡ true) (short_back e.high b) t) in
     let l = short_back e.low a in
     let p = w.low in

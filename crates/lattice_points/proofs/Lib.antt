@@ -3,4 +3,4 @@ pub mod BoxLemmas
 pub mod LineLemmas
 pub mod FoundLemmas
 pub mod ScanLemmas
-pub mod ShadowLemmas
+pub mod InequalityLemmas

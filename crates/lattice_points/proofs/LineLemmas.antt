@@ -68,12 +68,12 @@ module _ (m : Vector) (cs : List ℤ) (sum x1 x2 x3 : ℤ) (e : cs ≡ numbers m
   pub level_is : machine w64 (sum ∷ get_or cs 2 (pos 0) ∷ x3 ∷ []) (plus (var 0) (times (var 1) (var 2))) ≡ head_sum m x1 x2 +ℤ m.x3 *ℤ x3
   level_is = level_plain ∙ (λ i. q i +ℤ get_or (e i) 2 (pos 0) *ℤ x3)
 
-  pub level_size : unsigned_abs (machine w64 (sum ∷ get_or cs 2 (pos 0) ∷ x3 ∷ []) (plus (var 0) (times (var 1) (var 2)))) ≤ 2 ^ 22
+  pub level_size : unsigned_abs (machine w64 (sum ∷ get_or cs 2 (pos 0) ∷ x3 ∷ []) (plus (var 0) (times (var 1) (var 2)))) ≤ 2 ^ 32
   level_size =
       let p = AreWithin-four 1023 cs (small_coordinates m cs s e) in
       let b : unsigned_abs (sum +ℤ get_or cs 2 (pos 0) *ℤ x3) ≤ 3139587 = value-size (sum ∷ get_or cs 2 (pos 0) ∷ x3 ∷ []) (2093058 ∷ 1023 ∷ 1023 ∷ []) (plus (var 0) (times (var 1) (var 2))) (sum_size, (p 2, (h3, tt))) in
-      let P : ℤ → Type 0 = λ y. unsigned_abs y ≤ 2 ^ 22 in
-      subst P (sym level_plain) (let r : unsigned_abs (sum +ℤ get_or cs 2 (pos 0) *ℤ x3) ≤ 2 ^ 22 = omega arith in r)
+      let P : ℤ → Type 0 = λ y. unsigned_abs y ≤ 2 ^ 32 in
+      subst P (sym level_plain) (let r : unsigned_abs (sum +ℤ get_or cs 2 (pos 0) *ℤ x3) ≤ 2 ^ 32 = omega arith in r)
 
 -- ---- one more dual vertex
 

@@ -119,10 +119,10 @@ pub record Sweeps (p : VertexLists) (S : Vector → Type 0) (c : Vector → ℤ)
   pub adds : Adds p (IsBelow S c z) old new
   pub room : pos new.count ≤ℤ (pos old.count +ℤ pos per *ℤ (z -ℤ e.low))
 
-module _ (p : VertexLists) (S : Vector → Type 0) (c : Vector → ℤ) (e : Extent) (per : ℕ) (size : AreWithin (2 ^ 23) (e.low ∷ e.high ∷ [])) where
+module _ (p : VertexLists) (S : Vector → Type 0) (c : Vector → ℤ) (e : Extent) (per : ℕ) (size : AreWithin (2 ^ 33) (e.low ∷ e.high ∷ [])) where
   pub sweep_start : (f : Found) → ((q : Point) → IsPointOf p q → S q.place → e.low ≤ℤ c q.place) → Sweeps p S c e per (to_z w64 (of_z w64 e.low)) f f
   sweep_start f h =
-      let k : unsigned_abs e.low ≤ 2 ^ 24 = (let s = size.0 in omega arith) in
+      let k : unsigned_abs e.low ≤ 2 ^ 34 = (let s = size.0 in omega arith) in
       let P : ℤ → Type 0 = λ z. Sweeps p S c e per z f f in
       subst P (sym (short_back e.low k)) (record {
         low = ≤ℤ_refl e.low;
@@ -139,7 +139,7 @@ module _ (p : VertexLists) (S : Vector → Type 0) (c : Vector → ℤ) (e : Ext
       let l = s.low in
       let i = size.0 in
       let j = size.1.0 in
-      let k : unsigned_abs (z +ℤ pos 1) ≤ 2 ^ 24 = omega (arith, ints) in
+      let k : unsigned_abs (z +ℤ pos 1) ≤ 2 ^ 34 = omega (arith, ints) in
       let P : ℤ → Type 0 = λ y. Sweeps p S c e per y old new in
       subst P (sym (short_back (z +ℤ pos 1) k)) (record {
         low = omega (arith, ints);

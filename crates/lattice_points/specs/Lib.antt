@@ -1,5 +1,5 @@
 pub mod Boxes
 pub mod Faults
+pub mod Inequalities
 pub mod Lines
 pub mod Scans
-pub mod Shadows

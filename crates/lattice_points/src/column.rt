@@ -1,14 +1,11 @@
 //! The part of a column that lies in the polytope.
-ghost use Rattle.std.specs.Prelude.{◌≡◌, ℤ, pos, negsuc, ◌+ℤ◌, ◌*ℤ◌, ◌≤ℤ◌, ◌<ℤ◌, ◌≤◌, ◌^◌, ◌↔◌, [], ◌∷◌, List, length, All};
+ghost use Rattle.std.specs.Prelude.{◌≡◌, ℤ, pos, negsuc, ◌+ℤ◌, ◌*ℤ◌, ◌≤ℤ◌, ◌<ℤ◌, ◌≤◌, ◌^◌, ◌↔◌, [], ◌∷◌, length, All};
 ghost use Rattle.ntfe_nums.specs.Sizes.{AreWithin};
 ghost use Rattle.ntfe_model.specs.Pairs.{IsSmall};
 ghost use Rattle.lattice_points.specs.Boxes.{IsWithin};
 ghost use Rattle.lattice_points.specs.Lines.{place, KeepsSums, IsOpen};
-ghost use Rattle.lattice_points.specs.Shadows.{IsShadow};
-ghost use Rattle.ntfe_nums.specs.Vectors.{Vector};
 
 use crate::bounds::Extent;
-use crate::shadow::Shadow;
 use ntfe_model::Vec4;
 
 const EMPTY: Extent = Extent { low: 1, high: 0 };
@@ -25,11 +22,11 @@ pub struct Line {
 /// The numbers x of an extent with `level + slope * x` at least -1, where the slope is not negative.
 fn cut_below(left: Extent, slope: i64, level: i64) -> Extent
     requires rising { pos 0 ≤ℤ slope }
-    requires left { AreWithin (2 ^ 23) (left.low ∷ left.high ∷ []) }
-    requires slope { AreWithin 1023 (slope ∷ []) }
-    requires level { AreWithin (2 ^ 22) (level ∷ []) }
+    requires left { AreWithin (2 ^ 33) (left.low ∷ left.high ∷ []) }
+    requires slope { AreWithin (2 ^ 21) (slope ∷ []) }
+    requires level { AreWithin (2 ^ 32) (level ∷ []) }
     ensures value { (x : ℤ) → IsWithin result x ↔ (IsWithin left x × (negsuc 0 ≤ℤ (level +ℤ slope *ℤ x))) }
-    ensures size { AreWithin (2 ^ 23) (result.low ∷ result.high ∷ []) }
+    ensures size { AreWithin (2 ^ 33) (result.low ∷ result.high ∷ []) }
 {
     if level + slope * left.high < -1 {
         return EMPTY;
@@ -47,11 +44,11 @@ fn cut_below(left: Extent, slope: i64, level: i64) -> Extent
 /// The numbers x of an extent with `level + slope * x` at least -1, where the slope is negative.
 fn cut_above(left: Extent, slope: i64, level: i64) -> Extent
     requires falling { slope <ℤ pos 0 }
-    requires left { AreWithin (2 ^ 23) (left.low ∷ left.high ∷ []) }
-    requires slope { AreWithin 1023 (slope ∷ []) }
-    requires level { AreWithin (2 ^ 22) (level ∷ []) }
+    requires left { AreWithin (2 ^ 33) (left.low ∷ left.high ∷ []) }
+    requires slope { AreWithin (2 ^ 21) (slope ∷ []) }
+    requires level { AreWithin (2 ^ 32) (level ∷ []) }
     ensures value { (x : ℤ) → IsWithin result x ↔ (IsWithin left x × (negsuc 0 ≤ℤ (level +ℤ slope *ℤ x))) }
-    ensures size { AreWithin (2 ^ 23) (result.low ∷ result.high ∷ []) }
+    ensures size { AreWithin (2 ^ 33) (result.low ∷ result.high ∷ []) }
 {
     if level + slope * left.low < -1 {
         return EMPTY;
@@ -67,34 +64,18 @@ fn cut_above(left: Extent, slope: i64, level: i64) -> Extent
 }
 
 /// The numbers x of an extent with `level + slope * x` at least -1.
-fn cut(left: Extent, slope: i64, level: i64) -> Extent
-    requires left { AreWithin (2 ^ 23) (left.low ∷ left.high ∷ []) }
-    requires slope { AreWithin 1023 (slope ∷ []) }
-    requires level { AreWithin (2 ^ 22) (level ∷ []) }
+pub fn cut(left: Extent, slope: i64, level: i64) -> Extent
+    requires left { AreWithin (2 ^ 33) (left.low ∷ left.high ∷ []) }
+    requires slope { AreWithin (2 ^ 21) (slope ∷ []) }
+    requires level { AreWithin (2 ^ 32) (level ∷ []) }
     ensures value { (x : ℤ) → IsWithin result x ↔ (IsWithin left x × (negsuc 0 ≤ℤ (level +ℤ slope *ℤ x))) }
-    ensures size { AreWithin (2 ^ 23) (result.low ∷ result.high ∷ []) }
+    ensures size { AreWithin (2 ^ 33) (result.low ∷ result.high ∷ []) }
 {
     if slope < 0 {
         cut_above(left, slope, level)
     } else {
         cut_below(left, slope, level)
     }
-}
-
-/// The numbers of an extent for the third coordinate that the sums leave, where these are the first two.
-pub fn third_extent(shadows: &[Shadow], x1: i64, x2: i64, extent: Extent) -> Extent
-    requires shadows { (ms : List Vector) × All (IsShadow ms) shadows.now }
-    requires size { AreWithin 1023 (x1 ∷ x2 ∷ []) }
-    requires extent { AreWithin (2 ^ 23) (extent.low ∷ extent.high ∷ []) }
-    ensures inside { (ms : List Vector) (x : Vector) → All (IsShadow ms) shadows.now → IsOpen ms x → x.x1 ≡ x1 → x.x2 ≡ x2 → IsWithin extent x.x3 → IsWithin result x.x3 }
-    ensures within { (z : ℤ) → IsWithin result z → IsWithin extent z }
-    ensures size { AreWithin (2 ^ 23) (result.low ∷ result.high ∷ []) }
-{
-    let mut left = extent;
-    for shadow in shadows {
-        left = cut(left, shadow.c3, shadow.level(x1, x2));
-    }
-    left
 }
 
 impl Line {
@@ -121,9 +102,9 @@ impl Line {
         requires small { All IsSmall dual.now }
         requires sums { KeepsSums dual.now self.now }
         requires size { AreWithin 1023 (self.now.x1 ∷ self.now.x2 ∷ x3 ∷ []) }
-        requires extent { AreWithin (2 ^ 23) (extent.low ∷ extent.high ∷ []) }
+        requires extent { AreWithin (2 ^ 33) (extent.low ∷ extent.high ∷ []) }
         ensures value { (x4 : ℤ) → IsWithin result x4 ↔ (IsWithin extent x4 × IsOpen dual.now (place self.now.x1 self.now.x2 x3 x4)) }
-        ensures size { AreWithin (2 ^ 23) (result.low ∷ result.high ∷ []) }
+        ensures size { AreWithin (2 ^ 33) (result.low ∷ result.high ∷ []) }
     {
         let mut left = extent;
         for (i, m) in dual.iter().enumerate() {

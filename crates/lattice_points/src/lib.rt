@@ -5,8 +5,9 @@ mod bounds;
 mod column;
 mod fault;
 mod found;
+mod inequality;
 mod scan;
-mod shadow;
+mod sums;
 #[cfg(test)]
 mod tests;
 mod tight;

@@ -7,22 +7,19 @@ ghost use Rattle.ntfe_model.specs.Points.{IsInside, ArePoints};
 ghost use Rattle.lattice_points.specs.Boxes.{IsWithin, AreBoundsOf};
 ghost use Rattle.lattice_points.specs.Faults.{HasFewColumns, HasCause};
 ghost use Rattle.lattice_points.specs.Lines.{place};
-ghost use Rattle.lattice_points.specs.Shadows.{IsShadow};
+ghost use Rattle.lattice_points.specs.Inequalities.{AreSums};
 ghost use Rattle.lattice_points.specs.Scans.{Adds, IsAnywhere, IsOnPlane, IsOnLine, IsInColumn};
 
 use crate::bounds::{Bounds, Extent};
-use crate::column::{Line, third_extent};
+use crate::column::Line;
 use crate::fault::PointFault;
 use crate::found::Found;
-use crate::shadow::{Shadow, shadows_of};
+use crate::sums::Sums;
 use ntfe_model::{List, Pair, Point, Vec4};
 use std::alloc::{AllocError, Global};
 
 /// The most columns that are gone through.
 const COLUMN_LIMIT: u64 = 16_777_216;
-
-/// The most sums of two inequalities that are used.
-const MOST_SHADOWS: usize = 64;
 
 /// Looks at each place of one column that is in the polytope.
 fn scan_column(
@@ -36,7 +33,7 @@ fn scan_column(
 ) -> Result<(), AllocError>
     requires bounded { IsBounded pair.now }
     requires inside { (x4 : ℤ) → IsWithin inside x4 ↔ IsInside pair.now (place x1 x2 x3 x4) }
-    requires size { AreWithin (2 ^ 23) (inside.low ∷ inside.high ∷ []) }
+    requires size { AreWithin (2 ^ 33) (inside.low ∷ inside.high ∷ []) }
     requires room { found.old.count ≤ 2 ^ 61 }
     ensures adds { OnOk result (Adds pair.now (IsInColumn x1 x2 x3) found.old found.new) }
     ensures most { OnOk result (found.new.count ≤ found.old.count + 2 ^ 11) }
@@ -63,7 +60,7 @@ fn scan_columns(
     requires second { IsWithin bounds.now.x2 x2 }
     requires all { (v : Vector) → IsInside pair.now v → IsOnLine x1 x2 v → IsWithin extent v.x3 }
     requires within { (x3 : ℤ) → IsWithin extent x3 → IsWithin bounds.now.x3 x3 }
-    requires size { AreWithin (2 ^ 23) (extent.low ∷ extent.high ∷ []) }
+    requires size { AreWithin (2 ^ 33) (extent.low ∷ extent.high ∷ []) }
     requires room { found.old.count ≤ 2 ^ 60 }
     ensures adds { OnOk result (Adds pair.now (IsOnLine x1 x2) found.old found.new) }
     ensures most { OnOk result (found.new.count ≤ found.old.count + 2 ^ 22) }
@@ -82,13 +79,13 @@ fn scan_line(
     alloc: Global,
     pair: &Pair,
     bounds: &Bounds,
-    shadows: &[Shadow],
+    sums: &Sums,
     x1: i64,
     x2: i64,
     found: &mut Found,
 ) -> Result<(), AllocError>
     requires bounded { IsBounded pair.now }
-    requires shadows { All (IsShadow pair.now.dual) shadows.now }
+    requires sums { AreSums pair.now.dual sums.now }
     requires bounds { AreBoundsOf pair.now.vertices bounds.now }
     requires first { IsWithin bounds.now.x1 x1 }
     requires second { IsWithin bounds.now.x2 x2 }
@@ -96,31 +93,56 @@ fn scan_line(
     ensures adds { OnOk result (Adds pair.now (IsOnLine x1 x2) found.old found.new) }
     ensures most { OnOk result (found.new.count ≤ found.old.count + 2 ^ 22) }
 {
-    let extent = third_extent(shadows, x1, x2, bounds.x3);
+    let extent = sums.third_extent(x1, x2, bounds.x3);
     scan_columns(alloc, pair, bounds, x1, x2, extent, found)
 }
 
-/// Goes through the lines of one plane.
+/// Goes through the lines of one plane whose second coordinate is in the extent.
+fn scan_lines(
+    alloc: Global,
+    pair: &Pair,
+    bounds: &Bounds,
+    sums: &Sums,
+    x1: i64,
+    extent: Extent,
+    found: &mut Found,
+) -> Result<(), AllocError>
+    requires bounded { IsBounded pair.now }
+    requires sums { AreSums pair.now.dual sums.now }
+    requires bounds { AreBoundsOf pair.now.vertices bounds.now }
+    requires first { IsWithin bounds.now.x1 x1 }
+    requires all { (v : Vector) → IsInside pair.now v → IsOnPlane x1 v → IsWithin extent v.x2 }
+    requires within { (x2 : ℤ) → IsWithin extent x2 → IsWithin bounds.now.x2 x2 }
+    requires size { AreWithin (2 ^ 33) (extent.low ∷ extent.high ∷ []) }
+    requires room { found.old.count ≤ 2 ^ 59 }
+    ensures adds { OnOk result (Adds pair.now (IsOnPlane x1) found.old found.new) }
+    ensures most { OnOk result (found.new.count ≤ found.old.count + 2 ^ 33) }
+{
+    for x2 in extent.low..extent.high + 1 {
+        scan_line(alloc, pair, bounds, sums, x1, x2, found)?;
+    }
+    Ok(())
+}
+
+/// Goes through the lines of one plane that the sums of inequalities leave.
 fn scan_plane(
     alloc: Global,
     pair: &Pair,
     bounds: &Bounds,
-    shadows: &[Shadow],
+    sums: &Sums,
     x1: i64,
     found: &mut Found,
 ) -> Result<(), AllocError>
     requires bounded { IsBounded pair.now }
-    requires shadows { All (IsShadow pair.now.dual) shadows.now }
+    requires sums { AreSums pair.now.dual sums.now }
     requires bounds { AreBoundsOf pair.now.vertices bounds.now }
     requires first { IsWithin bounds.now.x1 x1 }
     requires room { found.old.count ≤ 2 ^ 59 }
     ensures adds { OnOk result (Adds pair.now (IsOnPlane x1) found.old found.new) }
     ensures most { OnOk result (found.new.count ≤ found.old.count + 2 ^ 33) }
 {
-    for x2 in bounds.x2.low..bounds.x2.high + 1 {
-        scan_line(alloc, pair, bounds, shadows, x1, x2, found)?;
-    }
-    Ok(())
+    let extent = sums.second_extent(x1, bounds.x2);
+    scan_lines(alloc, pair, bounds, sums, x1, extent, found)
 }
 
 /// Goes through the planes of the box.
@@ -128,22 +150,22 @@ fn scan_box(
     alloc: Global,
     pair: &Pair,
     bounds: &Bounds,
-    shadows: &[Shadow],
+    sums: &Sums,
     found: &mut Found,
 ) -> Result<(), AllocError>
     requires bounded { IsBounded pair.now }
-    requires shadows { All (IsShadow pair.now.dual) shadows.now }
+    requires sums { AreSums pair.now.dual sums.now }
     requires bounds { AreBoundsOf pair.now.vertices bounds.now }
     requires room { found.old.count ≤ 2 ^ 58 }
     ensures { OnOk result (Adds pair.now IsAnywhere found.old found.new) }
 {
     for x1 in bounds.x1.low..bounds.x1.high + 1 {
-        scan_plane(alloc, pair, bounds, shadows, x1, found)?;
+        scan_plane(alloc, pair, bounds, sums, x1, found)?;
     }
     Ok(())
 }
 
-/// Goes through the box, with at most as many sums of inequalities as a line has columns.
+/// Goes through the box, with sums of the dual vertices' inequalities.
 fn scan_all(
     alloc: Global,
     pair: &Pair,
@@ -155,12 +177,8 @@ fn scan_all(
     requires room { found.old.count ≤ 2 ^ 58 }
     ensures { OnOk result (Adds pair.now IsAnywhere found.old found.new) }
 {
-    let shadows = shadows_of(
-        alloc,
-        pair.dual(),
-        MOST_SHADOWS.min(bounds.x3.side() as usize),
-    )?;
-    scan_box(alloc, pair, bounds, shadows.as_slice(), found)
+    let sums = Sums::of(alloc, pair.dual())?;
+    scan_box(alloc, pair, bounds, &sums, found)
 }
 
 /// The lattice points of the polytope that are tight on at least two dual vertices, in order of

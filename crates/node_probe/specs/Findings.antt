@@ -1,9 +1,10 @@
 -- What each finding at a key says.
-use Rattle.std.specs.Prelude.{◌≡◌, ℕ, ◌+◌, ◌<◌, ℤ, List, length, map, slice_get, Some, Contains}
+use Rattle.std.specs.Prelude.{◌≡◌, ℕ, ◌+◌, ◌<◌, ℤ, List, length, map, slice_get, Some, Contains, ⊤}
 use Rattle.ntfe_model.specs.Shapes.{Shape}
+use Rattle.ntfe_model.specs.Choices.{IsExtendable}
 use Rattle.ntfe_model.specs.Certificates.{IsCertificate, IsBlockedBy}
 use Rattle.ntfe_model.specs.Solver.{fold_row, IsInfeasible}
-use Rattle.ntfe_model.specs.Keys.{item_limit, last_number, AllItemsExist, AreHeadFolds, IsEnd, IsFar, IsPruned, IsClass, IsWideAt, IsInner, IsRefutedAt}
+use Rattle.ntfe_model.specs.Keys.{item_limit, last_number, AllItemsExist, AreHeadFolds, BeginsWith, IsEnd, IsFar, IsPruned, IsClass, IsWideAt, IsInner, IsRefutedAt}
 use Rattle.ntfe_model.specs.declared.nogood.Fold.{Fold}
 use Rattle.ntfe_model.specs.declared.nogood.Term.{Term}
 use Rattle.ntfe_model.specs.declared.nogood.Nogood.{Nogood}
@@ -52,3 +53,9 @@ IsFinding g width key set (Refuted n) = IsWithin g key × NoneBlocks set key × 
 IsFinding g width key set (Wide step number) = IsWithin g key × NoneBlocks set key × IsSolution g width key (Wide step number)
 IsFinding g width key set (Class w) = IsWithin g key × NoneBlocks set key × IsSolution g width key (Class w)
 IsFinding g width key set Descend = IsWithin g key × NoneBlocks set key × IsSolution g width key Descend
+
+-- where a certificate blocks the key, no extendable choice begins with its numbers
+abbrev pub RulesOut : Shape → List ℕ → Finding → Type 0
+RulesOut g key (Blocked place) = (choice : List ℕ) → IsExtendable g choice → ¬ (BeginsWith key choice)
+RulesOut g key (Refuted n) = (choice : List ℕ) → IsExtendable g choice → ¬ (BeginsWith key choice)
+RulesOut g key x = ⊤

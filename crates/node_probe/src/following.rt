@@ -40,11 +40,12 @@ pub fn follow_head(
             Ok(Some(Finding::Refuted(nogood)))
         }
         Pushed::Feasible => {
-            let mut heights = vec![in alloc; 0; geometry.points().len()]?;
-            stems.write_heights(&mut heights);
             if numbers.len() != geometry.faces().len() {
+                stems.has_heights();
                 return Ok(Some(Finding::Descend));
             }
+            let mut heights = vec![in alloc; 0; geometry.points().len()]?;
+            stems.write_heights(&mut heights);
             Ok(Some(Finding::Class(Heights(List::from_vec(heights)))))
         }
     }

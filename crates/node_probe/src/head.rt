@@ -38,8 +38,8 @@ pub fn add_rows(rows: &mut HeadRows, face: u32, folds: &[Fold]) -> Result<(), Al
     ensures folds { OnOk result (rows.new.folds.items ≡ rows.old.folds.items ++ folds.now) }
     ensures faces { OnOk result (rows.new.faces.items ≡ rows.old.faces.items ++ replicate (length folds.now) face) }
 {
-    for fold in folds {
-        rows.folds.push(*fold)?;
+    rows.folds.extend_from_slice(folds)?;
+    for _fold in 0..folds.len() {
         rows.faces.push(face)?;
     }
     Ok(())

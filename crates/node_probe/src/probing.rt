@@ -7,7 +7,7 @@ ghost use Rattle.ntfe_model.specs.Shapes.{IsShape};
 ghost use Rattle.nogood_set.specs.Blocking.{NoneBlocks};
 ghost use Rattle.node_probe.specs.Heads.{KeepsHead};
 ghost use Rattle.node_probe.specs.Shelves.{patches};
-ghost use Rattle.node_probe.specs.Findings.{IsWithin, IsFinding};
+ghost use Rattle.node_probe.specs.Findings.{IsWithin, IsFinding, RulesOut};
 ghost use Rattle.node_probe.specs.Followed.{IsFoundTrue};
 
 use crate::fetching::fetch_head;
@@ -60,6 +60,8 @@ fn found_before<B: Book>(
 ///   2^width in size, were too wide;
 /// - a two-face is left.
 ///
+/// So no extendable choice begins with the numbers of a key that is blocked or refuted.
+///
 /// The items that were looked for are kept in the book, which loses none, and their folds on the shelf
 /// of the geometry, so that a later probe does not make them again. Heights that the solver finds are kept
 /// there too: where those of a key's stem lift all folds of the key and a two-face is left, the solver is
@@ -90,6 +92,7 @@ pub fn probe_shelved<B: Book>(
     ensures patches { shelf.new ≡ shelf.old }
     ensures columns { tableau.new.columns ≡ tableau.old.columns }
     ensures finding { IfOk result (IsFinding geometry.now width key.now set.now) }
+    ensures pruned { IfOk result (RulesOut geometry.now key.now) }
 {
     let columns = geometry.points().len() as u32;
     if let Some(finding) = found_before(geometry, key, book, set)? {
@@ -133,6 +136,7 @@ pub fn probe_following<B: Book>(
     ensures columns { tableau.new.columns ≡ tableau.old.columns }
     ensures stems { stems.new.columns ≡ stems.old.columns }
     ensures finding { IfOk result (IsFoundTrue geometry.now width key.now set.now) }
+    ensures pruned { IfOk result (RulesOut geometry.now key.now) }
 {
     let columns = geometry.points().len() as u32;
     if let Some(finding) = found_before(geometry, key, book, set)? {
@@ -170,6 +174,7 @@ pub fn probe<B: Book>(
     ensures kept { KeepsAll (B.keeps book.old) (B.keeps book.new) }
     ensures columns { tableau.new.columns ≡ tableau.old.columns }
     ensures finding { IfOk result (IsFinding geometry.now width key.now set.now) }
+    ensures pruned { IfOk result (RulesOut geometry.now key.now) }
 {
     let mut shelf = Shelf::new(alloc, geometry)?;
     probe_shelved(alloc, geometry, key, book, &mut shelf, set, tableau, width)

@@ -120,7 +120,7 @@ impl Model for Stems {
 }
 
 impl Stems {
-    ghost use Rattle.std.specs.Prelude.{List, map, None};
+    ghost use Rattle.std.specs.Prelude.{List, ℤ, map, None};
     ghost use Rattle.ntfe_model.specs.declared.nogood.Fold.{Fold as FoldOf};
     ghost use Rattle.ntfe_model.specs.Solver.{fold_row, IsFeasible};
 
@@ -189,6 +189,14 @@ impl Stems {
         ensures { (v : StemValue) → self.now.last ≡ Some v → result.now ≡ v.multipliers }
     {
         self.stems[self.last].multipliers()
+    }
+
+    /// A law: the rows of the last stem have heights. The call does nothing: its contract is the law.
+    pub fn has_heights(&self)
+        requires { (v : StemValue) × (fs : List FoldOf) × (self.now.last ≡ Some v) × (v.folds ≡ Some fs) }
+        ensures { (v : StemValue) (fs : List FoldOf) → self.now.last ≡ Some v → v.folds ≡ Some fs → (heights : List ℤ) × IsFeasible self.now.columns (map (fold_row self.now.columns) fs) None heights }
+    {
+        self.stems[self.last].has_heights();
     }
 
     /// Writes the heights of the stated run on the rows of the last stem.

@@ -8,9 +8,10 @@ use Rattle.pair_text.specs.Output.{IsSplitAtOutput, IsCutAt}
 use Rattle.class_text.specs.Forms.{layout_of}
 use Rattle.class_text.specs.declared.form.TextForm.{TextForm}
 use Rattle.steal_workers.specs.Forms.{IsFormOf}
-use Rattle.ntfe_run.specs.Inputs.{IsInputOf, IsRefusalOf, IsStopOf}
+use Rattle.ntfe_run.specs.Inputs.{IsInputOf, IsRefusalOf}
 use Rattle.ntfe_run.specs.Commands.{form_of_options}
-use Rattle.ntfe_run.specs.Earlier.{layout, IsBegunRefusal, IsBegunStop, IsEarlierStop}
+use Rattle.ntfe_run.specs.Earlier.{layout, IsBegunRefusal}
+use Rattle.ntfe_run.specs.Stops.{IsStopOf, IsBegunStop, IsEarlierStop}
 use Rattle.ntfe_run.specs.declared.inputs.Stop.{Stop}
 use Rattle.ntfe_run.specs.declared.inputs.Stop.TheVariants.{Refused, Memory}
 use Rattle.ntfe_run.specs.declared.status.Refusal.{Refusal}

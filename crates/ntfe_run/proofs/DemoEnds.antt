@@ -17,7 +17,8 @@ use Rattle.lattice_points.specs.declared.fault.PointFault.TheVariants as point
 use Rattle.steal_workers.specs.Listings.{Listed, Bytes, TakesAll, TakesDue, TakesBelow, HasServed}
 use Rattle.steal_workers.specs.declared.served.Served.{Served}
 use Rattle.steal_workers.specs.declared.served.Served.TheVariants as served
-use Rattle.ntfe_run.specs.Demo.{IsDemoOf, IsDemoText, demo_listed, demo_limit, demo_text}
+use Rattle.ntfe_run.specs.Demo.{IsDemoOf, IsDemoText, demo_limit, demo_text}
+use Rattle.ntfe_run.specs.Dues.{demo_listed}
 use Rattle.ntfe_run.specs.Commands.{demo_room}
 use Rattle.ntfe_run.specs.Rooms.{IsAnswer, IsAnswered, IsReadInput}
 use Rattle.ntfe_run.specs.Edges.{Edges}

@@ -18,10 +18,10 @@ use Rattle.class_text.proofs.KeptBlocks.{IsShown, kept_at, kept_beginning, numbe
 use Rattle.class_text.proofs.NumberTexts.{number_text}
 use Rattle.class_text.proofs.TextLines.{IsOneLine}
 use Rattle.ntfe_words.specs.declared.command.Options.{Options}
-use Rattle.ntfe_run.specs.Commands.{form_of_options, listed_with, IsListText, IsListBegun}
+use Rattle.ntfe_run.specs.Commands.{form_of_options, listed_with, IsListText}
 use Rattle.ntfe_run.specs.Earlier.{layout}
 use Rattle.ntfe_run.proofs.AllBlocks.{BlockBelow, block_once, blocks_fixed, text_fixed}
-use Rattle.ntfe_run.proofs.Beginnings.{list_text_is, list_begins}
+use Rattle.ntfe_run.proofs.Beginnings.{list_text_is}
 use Rattle.steal_workers.proofs.NextBlocks.{after_chain}
 
 module _ (g : Shape) (form : Form) where
@@ -167,10 +167,9 @@ resumed_whole g form text earlier cut rest kept h e k r =
     never n o = cc
 
 -- what `classes` wrote, cut anywhere, and what `resume` wrote in the same form
-pub resumed_written : (o p : Options) (g : Shape) (text earlier cut rest : List ℕ) (kept : Kept) → IsShape g → form_of_options p ≡ form_of_options o → IsListBegun (listed_with o g nothing_kept) nothing_kept text → text ≡ earlier ++ cut
+pub resumed_written : (o p : Options) (g : Shape) (text earlier cut rest : List ℕ) (kept : Kept) → IsShape g → form_of_options p ≡ form_of_options o → IsListText (listed_with o g nothing_kept) nothing_kept text → text ≡ earlier ++ cut
     → IsKeptOf (layout (form_of_options o) g) earlier kept → ((n : ℕ) → p.limit ≡ Some n → kept.blocks ≤ n) → IsListText (listed_with p g kept) kept rest → IsRunText g (form_of_options p) nothing_kept p.limit (take kept.bytes earlier ++ rest)
-resumed_written o p g text earlier cut rest kept s same begun e k few r =
-    let all = list_begins o g s nothing_kept text begun in
+resumed_written o p g text earlier cut rest kept s same whole e k few r =
     let goes_on = subst (λ (f : Form). IsRunText g f kept p.limit rest) same (list_text_is p g s kept rest r) in
     subst (λ (f : Form). IsRunText g f nothing_kept p.limit (take kept.bytes earlier ++ rest)) (sym same)
-    (resumed_text g (form_of_options o) all.0 p.limit (text ++ all.1) earlier (cut ++ all.1) rest kept all.2 (ap (λ (x : List ℕ). x ++ all.1) e ∙ append_assoc earlier cut all.1) k few goes_on)
+    (resumed_text g (form_of_options o) o.limit p.limit text earlier cut rest kept (list_text_is o g s nothing_kept text whole) e k few goes_on)

@@ -1,5 +1,5 @@
 -- The text of a list, from its head to its end or to where it stops.
-use Rattle.std.proofs.Common.{◌≡◌, inl, inr, refl, sym, ap, ◌∙◌, subst, arith, ℕ, ◌+◌, ◌≤◌, List, [], ◌++◌, length, flat_map, append-nil, Some, None, Result, Ok, Err}
+use Rattle.std.proofs.Common.{◌≡◌, inl, inr, refl, sym, ap, ◌∙◌, subst, arith, ℕ, ◌+◌, ◌≤◌, List, [], ◌++◌, length, flat_map, Some, None, Result, Ok, Err}
 use Rattle.std.specs.Prelude.{Option, OnOk, OnErr}
 use Rattle.std.specs.Io.KnownBytes.{Appends}
 use Rattle.std.proofs.KnownBytes.{Appends-trans}
@@ -7,19 +7,20 @@ use Rattle.io_edge.specs.Causes.{AppendsPrefix, Rose}
 use Rattle.io_edge.specs.Lines.{WritesText}
 use Rattle.io_edge.specs.declared.line_fault.LineFault.{LineFault}
 use Rattle.io_edge.specs.declared.line_fault.LineFault.TheVariants as line
-use Rattle.io_edge.proofs.Pieces.{prefix_next}
+use Rattle.io_edge.proofs.Pieces.{prefix_next, prefix_more}
 use Rattle.io_edge.specs.Changes.{Change}
-use Rattle.ntfe_model.specs.Shapes.{Shape}
+use Rattle.ntfe_model.specs.Shapes.{Shape, IsShape}
 use Rattle.ntfe_words.specs.declared.command.Options.{Options}
-use Rattle.ntfe_model.specs.RunText.{Block, Kept, nothing_kept, AreBlocks, IsTextOf, IsUnderLimit, IsStoppedText, text_without_limit, block_text, end_line, limit_line}
-use Rattle.steal_workers.specs.Listings.{Listed, IsWithinLimit, HasServed, TakesAll, TakesDue, TakesBelow, TakesPart}
+use Rattle.ntfe_model.specs.RunText.{Block, Kept, nothing_kept, IsTextOf, IsUnderLimit, IsStoppedText, text_without_limit, block_text, end_line, limit_line}
+use Rattle.steal_workers.specs.Listings.{Listed, AreBlocksTo, IsWithinLimit, HasServed, TakesAll, TakesDue, TakesBelow, TakesPart}
 use Rattle.steal_workers.specs.declared.served.Served.{Served}
 use Rattle.steal_workers.specs.declared.served.Served.TheVariants as served
 use Rattle.steal_workers.proofs.NextBlocks.{no_blocks}
-use Rattle.ntfe_run.specs.Rooms.{Takes, TakesPrefix, IsAnswer}
-use Rattle.ntfe_run.specs.Commands.{IsListText, IsListBegun, listed_with, classes_room, resume_room}
+use Rattle.ntfe_run.proofs.Beginnings.{first_begin}
+use Rattle.ntfe_run.specs.Rooms.{Takes, IsAnswer}
+use Rattle.ntfe_run.specs.Commands.{IsListText, listed_with, classes_room, resume_room}
 use Rattle.ntfe_run.specs.Earlier.{Begun}
-use Rattle.ntfe_run.specs.Statuses.{kept_of, head_of, IsListEnd, WritesLine, WritesLast, status_of_lines, status_of_end}
+use Rattle.ntfe_run.specs.Statuses.{kept_of, head_of, TakesBeginning, IsListEnd, WritesLine, WritesLast, status_of_lines, status_of_end}
 use Rattle.ntfe_run.specs.declared.status.Status.{Status}
 use Rattle.ntfe_run.specs.declared.status.Status.TheVariants.{Done, Usage, Refused, Overflow, Limit, Memory, ReadFault, WriteFault}
 
@@ -45,13 +46,13 @@ module _ (l : Listed) (bytes : ℕ) where
   abbrev kept : Kept
   kept = kept_of l bytes
 
-  -- a text that stops in the head, or after it
-  pub head_begun : (a b : Option (List ℕ)) → AppendsPrefix a b head → TakesPrefix (IsListBegun l kept) (record { before = a; after = b })
-  head_begun a b h = record {
-    text = head;
-    is = inr record { last = l.start; blocks = []; are = no_blocks l; within = none_within l.limit l.kept; is = sym (append-nil head) };
-    prefix = h;
-  }
+  -- a text that stops in the head, or in the first blocks
+  begun : (a b last : Option (List ℕ)) (bs : List Block) → AreBlocksTo l last bs → IsWithinLimit l.limit l.kept (length bs) → AppendsPrefix a b (head ++ flat_map block_text bs) → TakesBeginning l bytes (record { before = a; after = b })
+  begun a b last bs are within p s =
+      let t = first_begin l.geometry s l.form kept l.limit last bs are within in record { text = head ++ flat_map block_text bs ++ t.0; is = inl t.1; prefix = prefix_more a b (head ++ flat_map block_text bs) t.0 p }
+
+  pub head_begun : (a b : Option (List ℕ)) → AppendsPrefix a b head → TakesBeginning l bytes (record { before = a; after = b })
+  head_begun a b h = begun a b l.start [] (no_blocks l) (none_within l.limit l.kept) (prefix_more a b head [] h)
 
   -- a head that was not written to its end
   head_end : (a b : Option (List ℕ)) (f h : ℕ) (fault : LineFault) → AppendsPrefix a b head → (fault ≡ line.Write → Rose f h) → IsListEnd l bytes (record { before = a; after = b }) (record { before = f; after = h }) (status_of_lines (Err fault))
@@ -68,12 +69,8 @@ module _ (l : Listed) (bytes : ℕ) where
 
   module _ (a b c : Option (List ℕ)) (took : Appends a b head) where
     -- a text that stops in a block
-    part_begun : TakesPart l (record { before = b; after = c }) → TakesPrefix (IsListBegun l kept) (record { before = a; after = c })
-    part_begun w = record {
-      text = head ++ flat_map block_text w.blocks;
-      is = inr record { last = w.last; blocks = w.blocks; are = w.are; within = w.within; is = refl };
-      prefix = prefix_next a b c head (flat_map block_text w.blocks) took w.took;
-    }
+    part_begun : TakesPart l (record { before = b; after = c }) → TakesBeginning l bytes (record { before = a; after = c })
+    part_begun w = begun a c w.last w.blocks w.are w.within (prefix_next a b c head (flat_map block_text w.blocks) took w.took)
 
     stopped : (bound : List ℕ) → TakesBelow l (record { before = b; after = c }) bound → (text : List ℕ) × IsStoppedText l.geometry l.form kept l.limit bound text × Appends a c text
     stopped bound w = (
@@ -94,8 +91,8 @@ module _ (l : Listed) (bytes : ℕ) where
       line_done : IsListText l kept whole → Appends c d last → Takes (IsListText l kept) (record { before = a; after = d })
       line_done is e = record { text = whole; is = is; all = Appends-trans a c d (head ++ flat_map block_text news) last body e }
 
-      line_begun : IsListText l kept whole → AppendsPrefix c d last → TakesPrefix (IsListBegun l kept) (record { before = a; after = d })
-      line_begun is e = record { text = whole; is = inl is; prefix = prefix_next a c d (head ++ flat_map block_text news) last body e }
+      line_begun : IsListText l kept whole → AppendsPrefix c d last → TakesBeginning l bytes (record { before = a; after = d })
+      line_begun is e s = record { text = whole; is = is; prefix = prefix_next a c d (head ++ flat_map block_text news) last body e }
 
       pub line_end : (f h i : ℕ) → f ≤ h → IsListText l kept whole → (r : Result (Unit {0}) LineFault) → WritesText c d h i r last → IsListEnd l bytes (record { before = a; after = d }) (record { before = f; after = i }) (status_of_lines r)
       line_end f h i low is (Ok done) w = line_done is w.ok
@@ -154,22 +151,22 @@ module _ (l : Listed) (bytes : ℕ) where
 
 -- ---- from a list to the answer of a command
 
-pub list_answer : (o : Options) (g : Shape) (taken : Change (Option (List ℕ))) (faults : Change ℕ) (status : Status) → IsListEnd (listed_with o g nothing_kept) 0 taken faults status → IsAnswer (classes_room o) g taken faults status
-list_answer o g taken faults Done h = h
-list_answer o g taken faults Memory h = h
-list_answer o g taken faults WriteFault h = h
-list_answer o g taken faults (Overflow choice step number) h = h
-list_answer o g taken faults (Limit face) h = h
-list_answer o g taken faults Usage h = h
-list_answer o g taken faults (Refused refusal) h = h
-list_answer o g taken faults ReadFault h = h
+pub list_answer : (o : Options) (g : Shape) → IsShape g → (taken : Change (Option (List ℕ))) (faults : Change ℕ) (status : Status) → IsListEnd (listed_with o g nothing_kept) 0 taken faults status → IsAnswer (classes_room o) g taken faults status
+list_answer o g s taken faults Done h = h
+list_answer o g s taken faults Memory h = h s
+list_answer o g s taken faults WriteFault h = (h.0 s, h.1)
+list_answer o g s taken faults (Overflow choice step number) h = h
+list_answer o g s taken faults (Limit face) h = h
+list_answer o g s taken faults Usage h = h
+list_answer o g s taken faults (Refused refusal) h = h
+list_answer o g s taken faults ReadFault h = h
 
-pub rest_answer : (o : Options) (i : Begun) (taken : Change (Option (List ℕ))) (faults : Change ℕ) (status : Status) → IsListEnd (listed_with o i.geometry i.kept) i.kept.bytes taken faults status → IsAnswer (resume_room o) i taken faults status
-rest_answer o i taken faults Done h = h
-rest_answer o i taken faults Memory h = h
-rest_answer o i taken faults WriteFault h = h
-rest_answer o i taken faults (Overflow choice step number) h = h
-rest_answer o i taken faults (Limit face) h = h
-rest_answer o i taken faults Usage h = h
-rest_answer o i taken faults (Refused refusal) h = h
-rest_answer o i taken faults ReadFault h = h
+pub rest_answer : (o : Options) (i : Begun) → IsShape i.geometry → (taken : Change (Option (List ℕ))) (faults : Change ℕ) (status : Status) → IsListEnd (listed_with o i.geometry i.kept) i.kept.bytes taken faults status → IsAnswer (resume_room o) i taken faults status
+rest_answer o i s taken faults Done h = h
+rest_answer o i s taken faults Memory h = h s
+rest_answer o i s taken faults WriteFault h = (h.0 s, h.1)
+rest_answer o i s taken faults (Overflow choice step number) h = h
+rest_answer o i s taken faults (Limit face) h = h
+rest_answer o i s taken faults Usage h = h
+rest_answer o i s taken faults (Refused refusal) h = h
+rest_answer o i s taken faults ReadFault h = h

@@ -7,7 +7,7 @@ use Rattle.ntfe_model.specs.RunText.{Form, Block, Kept, IsRunText, IsStoppedText
 use Rattle.ntfe_words.specs.declared.command.Command.{Command}
 use Rattle.ntfe_words.specs.declared.command.Command.TheVariants as command
 use Rattle.ntfe_words.specs.declared.command.Options.{Options}
-use Rattle.steal_workers.specs.Listings.{Listed, AreBlocksTo, IsWithinLimit}
+use Rattle.steal_workers.specs.Listings.{Listed, AreBlocksTo}
 use Rattle.ntfe_run.specs.Inputs.{IsInputOf, IsRefusalOf}
 use Rattle.ntfe_run.specs.Earlier.{Begun, IsBegunInput, IsBegunRefusal}
 use Rattle.ntfe_run.specs.Headline.{IsHeadlineText}
@@ -31,14 +31,6 @@ form_of_options o = record { push = o.push; stars = o.stars }
 abbrev pub listed_with : Options → Shape → Kept → Listed
 listed_with o g kept = record { geometry = g; form = form_of_options o; kept = kept.blocks; start = kept.last; limit = o.limit; width = o.width }
 
--- a beginning of the text of a run: the head, and the blocks of exactly the extendable choices up to one of them, or none, no more than the limit asks for
-pub record IsBeginning (l : Listed) (kept : Kept) (text : List ℕ) : Type 0 where
-  pub last : Option (List ℕ)
-  pub blocks : List Block
-  pub are : AreBlocksTo l last blocks
-  pub within : IsWithinLimit l.limit l.kept (length blocks)
-  pub is : text ≡ head_due l.geometry.pair l.form kept ++ flat_map block_text blocks
-
 -- The text where the limit is reached: the head, where it is due, the first blocks, as many as the limit asks for beside the kept ones, and the last line
 pub record IsDueText (l : Listed) (kept : Kept) (text : List ℕ) : Type 0 where
   pub limit : ℕ
@@ -53,9 +45,6 @@ pub record IsDueText (l : Listed) (kept : Kept) (text : List ℕ) : Type 0 where
 abbrev pub IsListText : Listed → Kept → List ℕ → Type 0
 IsListText l kept text = IsRunText l.geometry l.form kept l.limit text ⊎ IsDueText l kept text
 
-abbrev pub IsListBegun : Listed → Kept → List ℕ → Type 0
-IsListBegun l kept text = IsListText l kept text ⊎ IsBeginning l kept text
-
 -- `classes`: the text is that of a run, which lists exactly the extendable choices
 abbrev pub classes_room : Options → Room
 classes_room o = record {
@@ -64,7 +53,6 @@ classes_room o = record {
   Holds = IsInputOf;
   Refuses = IsRefusalOf;
   IsText = λ g text. IsListText (listed_with o g nothing_kept) nothing_kept text;
-  IsBegun = λ g text. IsListBegun (listed_with o g nothing_kept) nothing_kept text;
   IsWide = λ g choice step number. MayOverflow g None o.width choice step number;
   IsFar = λ g face key. MayLimit g None o.width face key;
   IsStopped = λ g bound text. IsStoppedText g (form_of_options o) nothing_kept o.limit bound text;
@@ -79,7 +67,6 @@ resume_room o = record {
   Holds = IsBegunInput (form_of_options o);
   Refuses = IsBegunRefusal (form_of_options o);
   IsText = λ i text. IsListText (listed_with o i.geometry i.kept) i.kept text;
-  IsBegun = λ i text. IsListBegun (listed_with o i.geometry i.kept) i.kept text;
   IsWide = λ i choice step number. MayOverflow i.geometry i.kept.last o.width choice step number;
   IsFar = λ i face key. MayLimit i.geometry i.kept.last o.width face key;
   IsStopped = λ i bound text. IsStoppedText i.geometry (form_of_options o) i.kept o.limit bound text;
@@ -95,7 +82,6 @@ faces_room = record {
   Holds = IsInputOf;
   Refuses = IsRefusalOf;
   IsText = λ g text. text ≡ faces_text g;
-  IsBegun = λ g text. text ≡ faces_text g;
   IsWide = λ g choice step number. ⊥;
   IsFar = λ g face key. ⊥;
   IsStopped = λ g bound text. ⊥;
@@ -112,7 +98,6 @@ demo_room number width = record {
   Holds = λ bytes g. IsDemoOf number g;
   Refuses = λ bytes refusal. ⊥;
   IsText = IsDemoText number;
-  IsBegun = IsDemoText number;
   IsWide = λ g choice step number. MayOverflow g None width choice step number;
   IsFar = λ g face key. MayLimit g None width face key;
   IsStopped = IsStoppedCount;

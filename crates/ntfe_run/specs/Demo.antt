@@ -1,11 +1,11 @@
 -- What `demo` counts, and the lines that it writes.
-use Rattle.std.specs.Prelude.{◌≡◌, ◌⊎◌, ℕ, ◌<◌, false, List, [], ◌∷◌, ◌++◌, length, codes, decimal, Option, Some, None, unwrap_or}
+use Rattle.std.specs.Prelude.{◌≡◌, ◌⊎◌, ℕ, ◌<◌, false, List, [], ◌∷◌, ◌++◌, length, codes, decimal, Option, None, unwrap_or}
 use Rattle.ntfe_model.specs.Lists.{IsListing, IsBelow}
 use Rattle.ntfe_model.specs.Shapes.{Shape, IsShape}
 use Rattle.ntfe_model.specs.declared.nogood.Push.TheVariants.{Up}
 use Rattle.ntfe_model.specs.RunText.{Form, Block, IsBlockOf, spaced, number_line}
 use Rattle.polygon_demo.specs.Polygons.{demo_pair}
-use Rattle.steal_workers.specs.Listings.{Listed, IsUpTo, last_choice}
+use Rattle.steal_workers.specs.Listings.{IsUpTo, last_choice}
 use Rattle.ntfe_run.specs.Headline.{IsInducedBlock}
 
 -- the product of polygon 1 and the polygon with this number, with its points and two-faces
@@ -20,10 +20,6 @@ demo_limit = 1000
 -- the classes are listed with pushing up and without stars
 abbrev pub demo_form : Form
 demo_form = record { push = Up; stars = false }
-
--- what is listed: all classes up to the limit
-abbrev pub demo_listed : ℕ → Shape → Listed
-demo_listed width g = record { geometry = g; form = demo_form; kept = 0; start = None; limit = Some demo_limit; width = width }
 
 -- ---- the lines
 

@@ -1,5 +1,5 @@
 -- What the input of `resume` holds, and why it is refused.
-use Rattle.std.specs.Prelude.{◌≢◌, ℕ, List, length, All, ⊤}
+use Rattle.std.specs.Prelude.{◌≢◌, ℕ, List, length, All}
 use Rattle.ntfe_model.specs.Shapes.{Shape}
 use Rattle.ntfe_model.specs.Keys.{item_limit}
 use Rattle.ntfe_model.specs.PairText.{lines}
@@ -9,8 +9,6 @@ use Rattle.pair_text.specs.Output.{IsOutputLine, IsSplitAtOutput}
 use Rattle.class_text.specs.Earlier.{HasCause}
 use Rattle.class_text.specs.declared.earlier_fault.EarlierFault.TheVariants as earlier
 use Rattle.ntfe_run.specs.Inputs.{IsInputOf, IsRefusalOf}
-use Rattle.ntfe_run.specs.declared.inputs.Stop.{Stop}
-use Rattle.ntfe_run.specs.declared.inputs.Stop.TheVariants.{Refused, Memory}
 use Rattle.ntfe_run.specs.declared.status.Refusal.{Refusal}
 use Rattle.ntfe_run.specs.declared.status.Refusal.TheVariants.{NoOutput, Earlier}
 
@@ -40,13 +38,3 @@ IsBegunRefusal form bytes NoOutput = All (λ line. ¬ (IsOutputLine line)) (line
 IsBegunRefusal form bytes (Earlier fault) =
     HoldBoth bytes (λ before behind. (g : Shape) × IsInputOf before g × HasCause (layout form g) behind fault) × (fault ≢ earlier.Memory)
 IsBegunRefusal form bytes refusal = HoldBoth bytes (λ before behind. IsRefusalOf before refusal)
-
--- of the earlier output alone
-abbrev pub IsEarlierStop : Form → Shape → List ℕ → Stop → Type 0
-IsEarlierStop form g behind (Refused (Earlier fault)) = HasCause (layout form g) behind fault × (fault ≢ earlier.Memory)
-IsEarlierStop form g behind (Refused refusal) = ⊥
-IsEarlierStop form g behind Memory = ⊤
-
-abbrev pub IsBegunStop : Form → List ℕ → Stop → Type 0
-IsBegunStop form bytes (Refused refusal) = IsBegunRefusal form bytes refusal
-IsBegunStop form bytes Memory = ⊤

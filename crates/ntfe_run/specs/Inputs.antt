@@ -1,5 +1,5 @@
 -- What the bytes of an input hold, and why they are refused.
-use Rattle.std.specs.Prelude.{◌≢◌, ℕ, List, ⊤}
+use Rattle.std.specs.Prelude.{◌≢◌, ℕ, List}
 use Rattle.ntfe_model.specs.Pairs.{VertexLists}
 use Rattle.ntfe_model.specs.PairText.{IsPairText}
 use Rattle.ntfe_model.specs.Reflexive.{IsReflexive}
@@ -11,8 +11,6 @@ use Rattle.lattice_points.specs.Faults.{HasFewColumns, HasCause as HasPointCause
 use Rattle.lattice_points.specs.declared.fault.PointFault.TheVariants as point
 use Rattle.ntfe_run.specs.declared.status.Refusal.{Refusal}
 use Rattle.ntfe_run.specs.declared.status.Refusal.TheVariants.{Text, Pair, Points}
-use Rattle.ntfe_run.specs.declared.inputs.Stop.{Stop}
-use Rattle.ntfe_run.specs.declared.inputs.Stop.TheVariants.{Refused, Memory}
 
 -- the bytes are the text of a reflexive pair within the limits, and g is this pair with its points and two-faces
 pub record IsInputOf (bytes : List ℕ) (g : Shape) : Type 0 where
@@ -32,7 +30,3 @@ IsRefusalOf bytes (Text fault) = HasTextCause bytes fault × (fault ≢ text.Mem
 IsRefusalOf bytes (Pair fault) = HoldPair bytes (λ p. HasFault p fault)
 IsRefusalOf bytes (Points fault) = HoldPair bytes (λ p. IsReflexive p × HasPointCause p fault) × (fault ≢ point.Memory)
 IsRefusalOf bytes refusal = ⊥
-
-abbrev pub IsStopOf : List ℕ → Stop → Type 0
-IsStopOf bytes (Refused refusal) = IsRefusalOf bytes refusal
-IsStopOf bytes Memory = ⊤

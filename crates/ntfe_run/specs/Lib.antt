@@ -6,6 +6,7 @@ pub mod Headline
 pub mod Demo
 pub mod Inputs
 pub mod Earlier
+pub mod Stops
 pub mod Codes
 pub mod Messages
 pub mod Parts

@@ -5,6 +5,7 @@ use Rattle.std.specs.Io.KnownBytes.{Appends}
 use Rattle.io_edge.specs.Causes.{Rose, AppendsPrefix}
 use Rattle.io_edge.specs.Changes.{Change}
 use Rattle.ntfe_model.specs.RunText.{spaced}
+use Rattle.ntfe_model.specs.declared.book.TheConstants.{ITEM_LIMIT}
 use Rattle.pair_text.specs.declared.fault.TextFault.{TextFault}
 use Rattle.pair_text.specs.declared.fault.TextFault.TheVariants as text
 use Rattle.reflexive_pair.specs.declared.fault.PairFault.{PairFault}
@@ -81,7 +82,7 @@ abbrev pub overflow_message : List ℕ → ℕ → ℤ → List ℕ
 overflow_message choice step number = overflow_head step number ++ spaced_numbers choice
 
 abbrev pub limit_message : ℕ → List ℕ
-limit_message face = codes "face " ++ (decimal face ++ codes " has more than 1048576 items")
+limit_message face = codes "face " ++ (decimal face ++ (codes " has more than " ++ (decimal ITEM_LIMIT ++ codes " items")))
 
 -- what tells of an answer other than `Done`
 abbrev pub answer_message : Status → List ℕ

@@ -1,4 +1,4 @@
--- The parts of a message.
+-- A helper of the code: the parts of a message.
 use Rattle.std.specs.Prelude.{ℕ, List, decimal}
 use Rattle.std.specs.Fmt.{signed_decimal}
 use Rattle.ntfe_run.specs.declared.part.Part.{Part}

@@ -19,8 +19,6 @@ pub record Room : Type 1 where
   pub Refuses : List ℕ → Refusal → Type 0
   -- the whole text
   pub IsText : Input → List ℕ → Type 0
-  -- a text of which a prefix is written where the writing stops in the midst
-  pub IsBegun : Input → List ℕ → Type 0
   -- a choice on which it may stop, since at this step the solver comes to this number, which is too wide
   pub IsWide : Input → List ℕ → ℕ → ℤ → Type 0
   -- a key on which it may stop, since this two-face has too many items
@@ -90,8 +88,8 @@ IsFarEnd r face i text = (key : List ℕ) × r.IsFar i face key × r.IsStopped i
 -- how the answer to an input ends, with what was written and the sink's count of faults
 abbrev pub IsAnswer : (r : Room) → r.Input → Change (Option (List ℕ)) → Change ℕ → Status → Type 0
 IsAnswer r i taken faults Done = Takes (r.IsText i) taken
-IsAnswer r i taken faults Memory = TakesPrefix (r.IsBegun i) taken
-IsAnswer r i taken faults WriteFault = TakesPrefix (r.IsBegun i) taken × Rose faults.before faults.after
+IsAnswer r i taken faults Memory = TakesPrefix (r.IsText i) taken
+IsAnswer r i taken faults WriteFault = TakesPrefix (r.IsText i) taken × Rose faults.before faults.after
 IsAnswer r i taken faults (Overflow choice step number) = Takes (IsWideEnd r choice step number i) taken
 IsAnswer r i taken faults (Limit face) = Takes (IsFarEnd r face i) taken
 IsAnswer r i taken faults status = ⊥
@@ -109,13 +107,13 @@ HasCause r e ReadFault = Rose e.read_faults.before e.read_faults.after
 HasCause r e WriteFault = Rose e.write_faults.before e.write_faults.after
 HasCause r e Usage = ⊥
 
--- What the sink took: the whole text, where all was done; all below it, where the listing stopped at a choice or a key; else nothing, or a prefix of a text
+-- What the sink took: the whole text, where all was done; all below it, where the listing stopped at a choice or a key; else nothing, or a prefix of the whole text
 abbrev pub HasText : Room → Edges → Status → Type 0
 HasText r e Done = TakesAll r r.IsText e
 HasText r e (Overflow choice step number) = TakesAll r (IsWideEnd r choice step number) e
 HasText r e (Limit face) = TakesAll r (IsFarEnd r face) e
-HasText r e Memory = Keeps e.taken.before e.taken.after ⊎ TakesPart r r.IsBegun e
-HasText r e WriteFault = TakesPart r r.IsBegun e
+HasText r e Memory = Keeps e.taken.before e.taken.after ⊎ TakesPart r r.IsText e
+HasText r e WriteFault = TakesPart r r.IsText e
 HasText r e status = Keeps e.taken.before e.taken.after
 
 -- both

@@ -1,4 +1,4 @@
--- The statuses that the steps of a command come to.
+-- Helpers of the code: the statuses that the steps of a command come to.
 use Rattle.std.specs.Prelude.{◌≡◌, ◌⊎◌, ℕ, List, codes, Option, Result, Ok, Err, ⊤}
 use Rattle.std.specs.Io.KnownBytes.{Keeps}
 use Rattle.io_edge.specs.Causes.{Rose}
@@ -7,7 +7,7 @@ use Rattle.io_edge.specs.Reading.{ReadsAll, ReadsPast}
 use Rattle.io_edge.specs.declared.line_fault.LineFault.{LineFault}
 use Rattle.io_edge.specs.declared.line_fault.LineFault.TheVariants as line
 use Rattle.io_edge.specs.Lines.{WritesText}
-use Rattle.ntfe_model.specs.Shapes.{Shape}
+use Rattle.ntfe_model.specs.Shapes.{Shape, IsShape}
 use Rattle.ntfe_model.specs.Keys.{MayOverflow, MayLimit}
 use Rattle.ntfe_model.specs.RunText.{Form, Kept, IsStoppedText, head_due, end_line, limit_line}
 use Rattle.steal_workers.specs.Listings.{Listed}
@@ -16,7 +16,7 @@ use Rattle.steal_workers.specs.declared.served.Served.TheVariants as served
 use Rattle.class_text.specs.Earlier as earlier
 use Rattle.ntfe_run.specs.Earlier.{Begun, IsBegunInput}
 use Rattle.ntfe_run.specs.declared.commands.resume.Resumed.{Resumed}
-use Rattle.ntfe_run.specs.Commands.{input_limit, begun_limit, IsListText, IsListBegun, demo_room}
+use Rattle.ntfe_run.specs.Commands.{input_limit, begun_limit, IsListText, demo_room}
 use Rattle.ntfe_run.specs.Demo.{IsDemoText, demo_text}
 use Rattle.ntfe_run.specs.Inputs.{IsInputOf}
 use Rattle.ntfe_run.specs.Rooms.{Takes, TakesPrefix, IsAnswer}
@@ -69,11 +69,15 @@ kept_of l bytes = record { bytes = bytes; blocks = l.kept; last = l.start }
 abbrev pub head_of : Listed → ℕ → List ℕ
 head_of l bytes = head_due l.geometry.pair l.form (kept_of l bytes)
 
+-- a prefix of the text was taken, which each reflexive pair within the limits has
+abbrev pub TakesBeginning : Listed → ℕ → Change (Option (List ℕ)) → Type 0
+TakesBeginning l bytes taken = IsShape l.geometry → TakesPrefix (IsListText l (kept_of l bytes)) taken
+
 -- how the text of a list ends, and what was taken, where so many bytes are kept
 abbrev pub IsListEnd : Listed → ℕ → Change (Option (List ℕ)) → Change ℕ → Status → Type 0
 IsListEnd l bytes taken faults Done = Takes (IsListText l (kept_of l bytes)) taken
-IsListEnd l bytes taken faults Memory = TakesPrefix (IsListBegun l (kept_of l bytes)) taken
-IsListEnd l bytes taken faults WriteFault = TakesPrefix (IsListBegun l (kept_of l bytes)) taken × Rose faults.before faults.after
+IsListEnd l bytes taken faults Memory = TakesBeginning l bytes taken
+IsListEnd l bytes taken faults WriteFault = TakesBeginning l bytes taken × Rose faults.before faults.after
 IsListEnd l bytes taken faults (Overflow choice step number) =
     Takes (λ text. MayOverflow l.geometry l.start l.width choice step number × IsStoppedText l.geometry l.form (kept_of l bytes) l.limit choice text) taken
 IsListEnd l bytes taken faults (Limit face) =

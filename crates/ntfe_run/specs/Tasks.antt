@@ -1,4 +1,4 @@
--- What a run has to do after its input is read: to list classes behind a head that is written, or to count them.
+-- Helpers of the code: what a run has to do after its input is read: to list classes behind a head that is written, or to count them.
 use Rattle.std.specs.Prelude.{◌≡◌, ℕ, ◌≤◌, List, Option}
 use Rattle.std.specs.Io.KnownBytes.{Appends}
 use Rattle.io_edge.specs.Changes.{Change}
@@ -8,8 +8,7 @@ use Rattle.ntfe_words.specs.declared.command.Command.{Command}
 use Rattle.ntfe_run.specs.Edges.{Edges}
 use Rattle.ntfe_run.specs.Rooms.{Room, IsAnswered}
 use Rattle.ntfe_run.specs.Commands.{room_of}
-use Rattle.ntfe_run.specs.Dues.{DueList}
-use Rattle.ntfe_run.specs.Demo.{demo_listed}
+use Rattle.ntfe_run.specs.Dues.{DueList, demo_listed}
 use Rattle.ntfe_run.specs.Statuses.{head_of, IsListEnd, IsDemoEnd}
 use Rattle.ntfe_run.specs.Answers.{HasAnswerCause, HasRunText}
 use Rattle.ntfe_run.specs.declared.status.Status.{Status}

@@ -3,9 +3,9 @@ ghost use Rattle.std.specs.Prelude.{◌≡◌, unwrap_or, []};
 ghost use Rattle.io_edge.specs.Lines.{WritesText};
 ghost use Rattle.ntfe_run.specs.Demo.{size_lines, classes_line, last_line, demo_text};
 
-use crate::messages::write_numbers;
 use crate::part::Part::{Number, Text};
 use crate::part::write_parts;
+use crate::pieces::write_numbers;
 use io_edge::{LineFault, Sink, write_text};
 use ntfe_model::{Choice, Geometry};
 

@@ -1,6 +1,7 @@
 //! From the bytes of a pair text to the pair with its points and two-faces.
 ghost use Rattle.std.specs.Prelude.{◌<◌, ◌^◌, length, IfOk, IfErr};
-ghost use Rattle.ntfe_run.specs.Inputs.{IsInputOf, IsStopOf};
+ghost use Rattle.ntfe_run.specs.Inputs.{IsInputOf};
+ghost use Rattle.ntfe_run.specs.Stops.{IsStopOf};
 
 use crate::status::Refusal;
 use lattice_points::PointFault;

@@ -10,6 +10,7 @@ mod listing;
 mod messages;
 mod numbered;
 mod part;
+mod pieces;
 mod reading;
 mod status;
 mod tasks;

@@ -2,5 +2,10 @@
 //! compared by the cases that the built program is run on.
 
 mod layers;
+mod lists;
 mod pairs;
+mod pool;
+mod refusals;
 mod runs;
+mod solver;
+mod store;

@@ -12,7 +12,7 @@ ghost use Rattle.ntfe_words.specs.declared.command.Command.TheVariants.{Classes,
 ghost use Rattle.ntfe_words.specs.declared.command.Options.{Options};
 ghost use Rattle.steal_workers.specs.Listings.{Listed, IsUpTo};
 ghost use Rattle.ntfe_run.specs.Answers.{IsRun};
-ghost use Rattle.ntfe_run.specs.Commands.{form_of_options, listed_with, classes_room, resume_room, IsDueText, IsListText, IsListBegun};
+ghost use Rattle.ntfe_run.specs.Commands.{form_of_options, listed_with, classes_room, resume_room, IsDueText, IsListText};
 ghost use Rattle.ntfe_run.specs.Earlier.{layout};
 ghost use Rattle.ntfe_run.specs.Edges.{Edges};
 ghost use Rattle.ntfe_run.specs.Rooms.{TakesAll};
@@ -49,10 +49,9 @@ pub fn done_shows_each_class()
 {}
 
 /// A law: what a run writes that comes to its limit is the text of a run with this limit, and what it
-/// writes that stops early is a beginning of one. The function does nothing: its contract is the law.
+/// writes that stops at a choice or key is a beginning of one. The function does nothing: its contract is the law.
 pub fn stopped_texts_begin_whole_ones()
     ensures due { (o : Options) (g : Shape) (kept : Kept) (text : List ℕ) → IsShape g → IsListText (listed_with o g kept) kept text → IsRunText g (form_of_options o) kept o.limit text }
-    ensures begun { (o : Options) (g : Shape) (kept : Kept) (text : List ℕ) → IsShape g → IsListBegun (listed_with o g kept) kept text → (limit : Option ℕ) × (cut : List ℕ) × IsRunText g (form_of_options o) kept limit (text ++ cut) }
     ensures stopped { (g : Shape) (form : Form) (kept : Kept) (limit : Option ℕ) (bound text : List ℕ) → IsShape g → IsStoppedText g form kept limit bound text → (cut : List ℕ) × IsRunText g form kept None (text ++ cut) }
 {}
 
@@ -65,6 +64,6 @@ pub fn resumed_text_is_whole()
     ensures whole { (g : Shape) (form : Form) (text earlier cut rest : List ℕ) (kept : Kept) → IsRunText g form nothing_kept None text → text ≡ earlier ++ cut → IsKeptOf (layout form g) earlier kept → IsRunText g form kept None rest → take kept.bytes earlier ++ rest ≡ text }
     ensures limits { (g : Shape) (form : Form) (limit other : Option ℕ) (text earlier cut rest : List ℕ) (kept : Kept) → IsRunText g form nothing_kept limit text → text ≡ earlier ++ cut → IsKeptOf (layout form g) earlier kept
         → ((n : ℕ) → other ≡ Some n → kept.blocks ≤ n) → IsRunText g form kept other rest → IsRunText g form nothing_kept other (take kept.bytes earlier ++ rest) }
-    ensures written { (o p : Options) (g : Shape) (text earlier cut rest : List ℕ) (kept : Kept) → IsShape g → form_of_options p ≡ form_of_options o → IsListBegun (listed_with o g nothing_kept) nothing_kept text → text ≡ earlier ++ cut
+    ensures written { (o p : Options) (g : Shape) (text earlier cut rest : List ℕ) (kept : Kept) → IsShape g → form_of_options p ≡ form_of_options o → IsListText (listed_with o g nothing_kept) nothing_kept text → text ≡ earlier ++ cut
         → IsKeptOf (layout (form_of_options o) g) earlier kept → ((n : ℕ) → p.limit ≡ Some n → kept.blocks ≤ n) → IsListText (listed_with p g kept) kept rest → IsRunText g (form_of_options p) nothing_kept p.limit (take kept.bytes earlier ++ rest) }
 {}

@@ -1,5 +1,5 @@
 -- Items that come one after the other from a stream.
-use Rattle.std.proofs.Common.{◌≡◌, ℕ, zero, suc, ◌+◌, ◌<◌, ◌≤◌, ◌⊎◌, inl, inr, ⊎_elim, refl, sym, ap, ◌∙◌, subst, arith, List, [], ◌∷◌, ◌++◌, length, Bool, true, false, Option, Some, None}
+use Rattle.std.proofs.Common.{◌≡◌, ℕ, ◌+◌, ◌<◌, ◌≤◌, ⊎_elim, refl, sym, ap, ◌∙◌, subst, arith, List, [], ◌∷◌, ◌++◌, length, Bool, true, false, Option, Some, None}
 use Rattle.std.specs.Prelude.{slice_get, is_some, not, MatchBool}
 use Rattle.std.proofs.lemmas.List.{length_push}
 use Rattle.ntfe_model.specs.Charts.{Patch}
@@ -7,6 +7,7 @@ use Rattle.ntfe_model.specs.Words.{IsItem, HasItemAt}
 use Rattle.ntfe_model.specs.declared.triangulation.Triangulation.{Triangulation}
 use Rattle.ntfe_model.proofs.Items.{lesser_items}
 use Rattle.fine_stream.specs.Cursors.{Cursor, StandsBefore, IsNextItem}
+use Rattle.fine_stream.proofs.RowLemmas.{last_item, answer_item, answer_none}
 use Rattle.shared_stream.specs.Taken.{Takes}
 
 -- the first items from a number on, and the stream stands behind them
@@ -16,19 +17,6 @@ pub record AreTaken (h : Patch) (first : ℕ) (after : Cursor) (xs : List Triang
 
 pub none_taken : (c : Cursor) (n : ℕ) → StandsBefore c n → AreTaken c.patch n c []
 none_taken c n s = let P : ℕ → Type 0 = λ m. StandsBefore c m in record { items = λ k x e. cc; stands = subst P (omega arith) s }
-
-last_item : (xs : List Triangulation) (x : Triangulation) (k : ℕ) (y : Triangulation) → slice_get (xs ++ x ∷ []) k ≡ Some y → (slice_get xs k ≡ Some y) ⊎ ((k ≡ length xs) × (y ≡ x))
-last_item [] x zero y e = inr (refl, (let f : y ≡ x = cc in f))
-last_item [] x (suc k) y e = cc
-last_item (z ∷ zs) x zero y e = inl e
-last_item (z ∷ zs) x (suc k) y e = ⊎_elim (λ p. inl p) (λ p. inr (ap suc p.0, p.1)) (last_item zs x k y e)
-
-answer_item : (c d : Cursor) (o : Option Triangulation) (x : Triangulation) → IsNextItem c d o → o ≡ Some x → (n : ℕ) → StandsBefore c n → StandsBefore d (n + 1) × IsItem c.patch n x
-answer_item c d o x a e n s =
-    let P : Option Triangulation → Type 0 = λ q. IsNextItem c d q in let b : IsNextItem c d (Some x) = subst P e a in b.1 n s
-
-answer_none : (c d : Cursor) (o : Option Triangulation) → IsNextItem c d o → o ≡ None → (n : ℕ) → StandsBefore c n → StandsBefore d n × (¬ (HasItemAt c.patch n))
-answer_none c d o a e = let P : Option Triangulation → Type 0 = λ q. IsNextItem c d q in let b : IsNextItem c d None = subst P e a in b.1
 
 pub one_taken : (h : Patch) (n : ℕ) (c d : Cursor) (o : Option Triangulation) (x : Triangulation) (xs ys : List Triangulation) → c.patch ≡ h → IsNextItem c d o → o ≡ Some x → ys ≡ xs ++ x ∷ []
     → AreTaken h n c xs → AreTaken h n d ys
@@ -51,7 +39,7 @@ within h n l k none has = grind (arith, lesser_items h (n + k) (n + l) has)
 -- the stream has no more items
 pub all_taken : (h : Patch) (n : ℕ) (c d : Cursor) (o : Option Triangulation) (xs : List Triangulation) → c.patch ≡ h → IsNextItem c d o → o ≡ None → length xs ≤ 256 → AreTaken h n c xs → Takes h n d xs
 all_taken h n c d o xs p a e l t =
-    let b = answer_none c d o a e (n + length xs) t.stands in
+    let b = (answer_none c d o a e).1 (n + length xs) t.stands in
     let R : Patch → Type 0 = λ q. ¬ (HasItemAt q (n + length xs)) in
     record {
       items = record { items = t.items; few = l; all = λ k m has. within h n (length xs) k (subst R p b.1) has };

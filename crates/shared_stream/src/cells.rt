@@ -6,6 +6,7 @@ ghost use Rattle.shared_stream.specs.Hands.{IsHanded, IsUpTo};
 use crate::handed::Handed;
 use crate::segment::Segment;
 use face_chart::Chart;
+use fine_stream::FaceTables;
 use once_cell::race::OnceBox;
 use std::alloc::{AllocError, Global};
 use std::marker::Model;
@@ -17,11 +18,15 @@ struct Block {
     ghost covers: { vec_len cells ≡ 64 },
 }
 
+/// The segments before this one are made without tables of the unit triples, so that the first items come soon.
+const TABLES_FROM: u32 = 16;
+
 /// A two-face with cells for its segments with numbers up to 4,096, in blocks of 64 that are made when one of their
-/// segments is asked for. Each cell is set once.
+/// segments is asked for. Each cell is set once. All segments borrow the same tables for the search of their items.
 #[derive(Drop)]
 pub struct Cells {
-    chart: Chart,
+    bare: FaceTables,
+    full: OnceBox<FaceTables>,
     blocks: Vec<OnceBox<Block>>,
 }
 
@@ -31,7 +36,7 @@ impl Model for Cells {
 
     ghost Value = { Patch };
 
-    ghost view = { λ c. c.chart };
+    ghost view = { λ c. c.bare.patch };
 
     ghost invariant = { λ c. vec_len c.blocks ≡ 65 };
 }
@@ -44,15 +49,25 @@ fn new_block(alloc: Global) -> Result<Box<Block>, AllocError> {
     Ok(Box::new(alloc, Block { cells })?)
 }
 
-fn first_segment(alloc: Global, chart: &Chart) -> Result<Box<Segment>, AllocError> {
-    Ok(Box::new(alloc, Segment::first(alloc, chart)?)?)
+fn full_tables(alloc: Global, chart: &Chart) -> Result<Box<FaceTables>, AllocError> {
+    let chart = chart.try_clone(alloc)?;
+    Ok(Box::new(alloc, FaceTables::full(alloc, chart)?)?)
 }
 
-fn segment_after(alloc: Global, previous: &Segment) -> Result<Box<Segment>, AllocError>
+fn first_segment(alloc: Global, tables: &FaceTables) -> Result<Box<Segment>, AllocError> {
+    Ok(Box::new(alloc, Segment::first(alloc, tables)?)?)
+}
+
+fn segment_after(
+    alloc: Global,
+    tables: &FaceTables,
+    previous: &Segment,
+) -> Result<Box<Segment>, AllocError>
+    requires tables { tables.now.patch ≡ previous.now.patch }
     requires more { previous.now.ended ≡ false }
     requires few { previous.now.number < 4096 }
 {
-    Ok(Box::new(alloc, Segment::after(alloc, previous)?)?)
+    Ok(Box::new(alloc, Segment::after(alloc, tables, previous)?)?)
 }
 
 impl Cells {
@@ -64,7 +79,38 @@ impl Cells {
         for _count in 0..65u32 {
             blocks.push(OnceBox::new(alloc))?;
         }
-        Ok(Cells { chart, blocks })
+        Ok(Cells {
+            bare: FaceTables::bare(alloc, chart)?,
+            full: OnceBox::new(alloc),
+            blocks,
+        })
+    }
+
+    /// The two-face.
+    fn chart(&self) -> &Chart
+        ensures { result.now ≡ self.now }
+    {
+        self.bare.chart()
+    }
+
+    /// The tables for the segment with this number. Where memory is short for the tables of the unit triples, or their
+    /// cell holds those of another two-face, they are left out.
+    fn tables(&self, alloc: Global, number: u32) -> &FaceTables
+        ensures { result.now.patch ≡ self.now }
+    {
+        if number < TABLES_FROM {
+            return &self.bare;
+        }
+        let chart = self.chart();
+        match self.full.get_or_try_init(move || full_tables(alloc, chart)) {
+            Ok(found) => {
+                if !found.chart().same(chart) {
+                    return &self.bare;
+                }
+                found
+            }
+            Err(_) => &self.bare,
+        }
     }
 
     /// The cell for the segment with this number. Its block is made where it is missing.
@@ -82,7 +128,7 @@ impl Cells {
     {
         let block = self.blocks[(number / 64) as usize].get()?;
         let found = block.cells[(number % 64) as usize].get()?;
-        if !found.is_of(&self.chart, number) {
+        if !found.is_of(self.chart(), number) {
             return None;
         }
         Some(found)
@@ -105,13 +151,13 @@ impl Cells {
     fn first(&self, alloc: Global) -> Result<Handed<'_>, AllocError>
         ensures { IfOk result (IsHanded self.now 0) }
     {
-        let chart = &self.chart;
+        let tables = self.tables(alloc, 0);
         let cell = self.cell(alloc, 0)?;
-        let found = cell.get_or_try_init(move || first_segment(alloc, chart))?;
-        if found.is_of(chart, 0) {
+        let found = cell.get_or_try_init(move || first_segment(alloc, tables))?;
+        if found.is_of(self.chart(), 0) {
             return Ok(Handed::Lent(found));
         }
-        Ok(Handed::Own(Segment::first(alloc, chart)?, found))
+        Ok(Handed::Own(Segment::first(alloc, tables)?, found))
     }
 
     /// The segment that follows another.
@@ -124,12 +170,13 @@ impl Cells {
         if previous.ended() {
             return Ok(Handed::Past { segments: number });
         }
+        let tables = self.tables(alloc, number);
         let cell = self.cell(alloc, number)?;
-        let found = cell.get_or_try_init(move || segment_after(alloc, previous))?;
-        if found.is_of(&self.chart, number) {
+        let found = cell.get_or_try_init(move || segment_after(alloc, tables, previous))?;
+        if found.is_of(self.chart(), number) {
             return Ok(Handed::Lent(found));
         }
-        Ok(Handed::Own(Segment::after(alloc, previous)?, found))
+        Ok(Handed::Own(Segment::after(alloc, tables, previous)?, found))
     }
 
     /// What is handed out for the number after another one.

@@ -7,7 +7,7 @@ ghost use Rattle.shared_stream.specs.Segments.{HasSegment, IsSegmentOf, item_in,
 
 use crate::taking::{SEGMENT_ITEMS, next_items};
 use face_chart::Chart;
-use fine_stream::Stream;
+use fine_stream::{FaceTables, LentStream};
 use ntfe_model::Triangulation;
 use std::alloc::{AllocError, Global};
 use std::marker::Model;
@@ -86,7 +86,11 @@ impl Segment {
     }
 
     /// The segment whose items a stream gives next.
-    fn from_stream(alloc: Global, stream: &mut Stream, number: u32) -> Result<Segment, AllocError>
+    fn from_stream(
+        alloc: Global,
+        stream: &mut LentStream<'_>,
+        number: u32,
+    ) -> Result<Segment, AllocError>
         requires segment { HasSegment stream.old.patch number }
         requires stands { StandsBefore stream.old (256 * number) }
         ensures { IfOk result (IsSegmentOf stream.old.patch number) }
@@ -103,21 +107,25 @@ impl Segment {
     }
 
     /// The first segment of a two-face.
-    pub(crate) fn first(alloc: Global, chart: &Chart) -> Result<Segment, AllocError>
-        ensures { IfOk result (IsSegmentOf chart.now 0) }
+    pub(crate) fn first(alloc: Global, tables: &FaceTables) -> Result<Segment, AllocError>
+        ensures { IfOk result (IsSegmentOf tables.now.patch 0) }
     {
-        let mut stream = Stream::new(alloc, chart.try_clone(alloc)?)?;
+        let mut stream = LentStream::new(alloc, tables);
         Segment::from_stream(alloc, &mut stream, 0)
     }
 
     /// The segment that follows another.
-    pub(crate) fn after(alloc: Global, previous: &Segment) -> Result<Segment, AllocError>
+    pub(crate) fn after(
+        alloc: Global,
+        tables: &FaceTables,
+        previous: &Segment,
+    ) -> Result<Segment, AllocError>
+        requires tables { tables.now.patch ≡ previous.now.patch }
         requires more { previous.now.ended ≡ false }
         requires few { previous.now.number < 4096 }
         ensures { IfOk result (IsSegmentOf previous.now.patch (previous.now.number + 1)) }
     {
-        let chart = previous.chart.try_clone(alloc)?;
-        let mut stream = Stream::from_word(alloc, chart, previous.last())?;
+        let mut stream = LentStream::from_word(alloc, tables, previous.last())?;
         Segment::from_stream(alloc, &mut stream, previous.number + 1)
     }
 }

@@ -3,7 +3,7 @@ ghost use Rattle.std.specs.Prelude.{◌≡◌, ℕ, IfOk};
 ghost use Rattle.fine_stream.specs.Cursors.{StandsBefore};
 ghost use Rattle.shared_stream.specs.Taken.{Takes};
 
-use fine_stream::Stream;
+use fine_stream::LentStream;
 use ntfe_model::Triangulation;
 use std::alloc::{AllocError, Global};
 
@@ -11,7 +11,10 @@ use std::alloc::{AllocError, Global};
 pub const SEGMENT_ITEMS: u32 = 256;
 
 /// The next 256 items of a stream, or those of them that exist.
-pub fn next_items(alloc: Global, stream: &mut Stream) -> Result<Vec<Triangulation>, AllocError>
+pub fn next_items(
+    alloc: Global,
+    stream: &mut LentStream<'_>,
+) -> Result<Vec<Triangulation>, AllocError>
     ensures patch { stream.new.patch ≡ stream.old.patch }
     ensures items { IfOk result (λ v. (n : ℕ) → StandsBefore stream.old n → Takes stream.old.patch n stream.new v.items) }
 {

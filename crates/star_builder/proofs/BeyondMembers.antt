@@ -26,7 +26,7 @@ use Rattle.star_builder.proofs.WholeHeights.{whole}
 use Rattle.ntfe_nums.proofs.Signs.{sign_of, square_positive, positive_product}
 
 -- two numbers on the side that the first is not on
-one_side : (z x y : ℤ) → z ≢ pos 0 → (z *ℤ x) <ℤ pos 0 → (z *ℤ y) <ℤ pos 0 → pos 0 <ℤ (x *ℤ y)
+pub one_side : (z x y : ℤ) → z ≢ pos 0 → (z *ℤ x) <ℤ pos 0 → (z *ℤ y) <ℤ pos 0 → pos 0 <ℤ (x *ℤ y)
 one_side z x y n l k =
     positive_factor (x *ℤ y) (z *ℤ z) (square_positive z n)
     (by (z *ℤ x) (z *ℤ y) ((x *ℤ y) *ℤ (z *ℤ z)) l k (ring (z ∷ x ∷ y ∷ []) (times (times (var 0) (var 1)) (times (var 0) (var 2))) (times (times (var 1) (var 2)) (times (var 0) (var 0))) refl))
@@ -38,7 +38,7 @@ one_side z x y n l k =
         flip p q = ring (p ∷ q ∷ []) (times (minus (num (pos 0)) (var 0)) (minus (num (pos 0)) (var 1))) (times (var 0) (var 1)) refl
 
 -- not positive and not 0
-below_zero : (z : ℤ) → z ≤ℤ pos 0 → z ≢ pos 0 → z <ℤ pos 0
+pub below_zero : (z : ℤ) → z ≤ℤ pos 0 → z ≢ pos 0 → z <ℤ pos 0
 below_zero z l n = grind (arith, ints)
 
 module _ (g : Shape) (w : List ℤ) (order : List ℕ) (star : List (List ℕ)) (s : IsShape g) (all : IsOrder (length g.points) order) (is : IsStar g.pair.dual g.points w order star) where
@@ -58,7 +58,7 @@ module _ (g : Shape) (w : List ℤ) (order : List ℕ) (star : List (List ℕ)) 
       (member_low g.pair.dual g.points w order all (point_small g s) members r) without (subst (λ (ks : List ℕ). Contains ks without) r.is h)
 
   -- a member that lies in a facet is low there
-  low_in : (facet : ℕ) (t : List ℕ) (r : IsMember g.pair.dual g.points w order t) → AreIn g.pair.dual g.points facet t → IsLow g.points heights (entry g.pair.dual facet) r.a r.b r.c r.d
+  pub low_in : (facet : ℕ) (t : List ℕ) (r : IsMember g.pair.dual g.points w order t) → AreIn g.pair.dual g.points facet t → IsLow g.points heights (entry g.pair.dual facet) r.a r.b r.c r.d
   low_in facet t r inside =
       subst (λ m. IsLow g.points heights m r.a r.b r.c r.d)
       (normal_fixed (entry g.pair.dual r.facet) (entry g.pair.dual facet) (at r.a) (at r.b) (at r.c) (at r.d) r.independent
@@ -191,10 +191,35 @@ module _ (g : Shape) (w : List ℤ) (order : List ℕ) (star : List (List ℕ)) 
       opposite = opposite;
     }
 
+  -- what lies beyond a ridge: the fourth point, and the member by rising numbers
+  pub record IsCrossing (members : List ℕ) (r : IsMember g.pair.dual g.points w order members) (without : ℕ) (p : IsSplit g.points heights (entry g.pair.dual r.facet) (r.a ∷ r.b ∷ r.c ∷ r.d ∷ []) without) : Type 0 where
+    pub fourth : ℕ
+    pub low : IsLow g.points heights (entry g.pair.dual r.facet) p.i p.j p.k fourth
+    pub opposite : (volume at heights p.i p.j p.k without *ℤ volume at heights p.i p.j p.k fourth) <ℤ pos 0
+    pub a : ℕ
+    pub b : ℕ
+    pub c : ℕ
+    pub d : ℕ
+    pub rising : (a < b) × (b < c) × (c < d)
+    pub same : HaveSame (p.i ∷ p.j ∷ p.k ∷ fourth ∷ []) (a ∷ b ∷ c ∷ d ∷ [])
+    pub beyond : IsBeyond g.pair.dual g.points w order members without (a ∷ b ∷ c ∷ d ∷ [])
+
   -- where a point of the facet lies on the other side of the ridge
   pub inner_ridge : (members : List ℕ) (r : IsMember g.pair.dual g.points w order members) (without : ℕ) (p : IsSplit g.points heights (entry g.pair.dual r.facet) (r.a ∷ r.b ∷ r.c ∷ r.d ∷ []) without)
       → (z : ℕ) → Contains (tight_points (entry g.pair.dual r.facet) g.points) z → (volume at heights p.i p.j p.k without *ℤ volume at heights p.i p.j p.k z) <ℤ pos 0
-      → (t : List ℕ) × IsBeyond g.pair.dual g.points w order members without t
+      → IsCrossing members r without p
   inner_ridge members r without p z h l =
-      let other = beyond_ridge g.points heights (heights_generic g w order star s all is) (entry g.pair.dual r.facet) p.i p.j p.k without p.low z h l in
-      (beside members r without p other.0 other.1 other.2, is_beyond members r without p other.0 other.1 other.2)
+      let e = beyond_ridge g.points heights (heights_generic g w order star s all is) (entry g.pair.dual r.facet) p.i p.j p.k without p.low z h l in
+      let n = sorted members r without p e.0 e.1 e.2 in
+      record {
+        fourth = e.0;
+        low = e.1;
+        opposite = e.2;
+        a = n.0;
+        b = n.1;
+        c = n.2;
+        d = n.3;
+        rising = (n.4, n.5, n.6);
+        same = n.7.1;
+        beyond = is_beyond members r without p e.0 e.1 e.2;
+      }

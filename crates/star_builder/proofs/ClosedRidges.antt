@@ -1,5 +1,5 @@
 -- The members of a star close up: each ridge lies in a second facet, or in exactly one other member of its facet.
---     ridge_closes      one or the other
+--     split_closes, ridge_closes      one or the other
 use Rattle.std.proofs.Common.{◌≡◌, ◌≢◌, ℕ, ◌⊎◌, inl, inr, ⊎_elim, sym, subst, ℤ, pos, ◌*ℤ◌, ◌<ℤ◌, ◌≤ℤ◌, List, [], ◌∷◌, length}
 use Rattle.std.specs.Prelude.{Contains}
 use Rattle.ntfe_nums.specs.Vectors.{Vector}
@@ -10,7 +10,7 @@ use Rattle.ntfe_model.specs.Points.{place_of_point}
 use Rattle.ntfe_model.specs.Shapes.{Shape, IsShape}
 use Rattle.ntfe_model.specs.Stars.{IsOrder, IsMember, IsStar, AreIn, HasRidge, IsOuterRidge, IsBeyond}
 use Rattle.ntfe_model.proofs.Listings.{Contains-here, Contains-there, Contains-cases, Contains-none}
-use Rattle.star_builder.proofs.BeyondMembers.{star_member, member_split, inner_ridge}
+use Rattle.star_builder.proofs.BeyondMembers.{IsCrossing, star_member, member_split, inner_ridge}
 use Rattle.star_builder.proofs.FourPoints.{in_four}
 use Rattle.star_builder.proofs.OuterRidges.{second_facet}
 use Rattle.star_builder.proofs.Ridges.{IsSplit}
@@ -22,18 +22,13 @@ use Rattle.star_builder.proofs.Searches.{some_or_all}
 use Rattle.ntfe_nums.proofs.Signs.{negative_or}
 
 module _ (g : Shape) (w : List ℤ) (order : List ℕ) (star : List (List ℕ)) (s : IsShape g) (all : IsOrder (length g.points) order) (is : IsStar g.pair.dual g.points w order star)
-    (members : List ℕ) (h : Contains star members) (without : ℕ) (has : Contains members without) where
+    (members : List ℕ) (member : IsMember g.pair.dual g.points w order members) (without : ℕ)
+    (split : IsSplit g.points (whole w order) (entry g.pair.dual member.facet) (member.a ∷ member.b ∷ member.c ∷ member.d ∷ []) without) where
   abbrev heights : ℕ → ℤ
   heights = whole w order
 
-  member : IsMember g.pair.dual g.points w order members
-  member = star_member g w order star s all is members h
-
   abbrev m : Vector
   m = entry g.pair.dual member.facet
-
-  split : IsSplit g.points heights m (member.a ∷ member.b ∷ member.c ∷ member.d ∷ []) without
-  split = member_split g w order star s all is members member without has
 
   -- how far on the member's own side of the ridge
   abbrev on_side : ℕ → ℤ
@@ -80,6 +75,13 @@ module _ (g : Shape) (w : List ℤ) (order : List ℕ) (star : List (List ℕ)) 
       second_facet g s member.facet member.number split.i split.j split.k without low.numbers.0 low.numbers.1 low.numbers.2 low.numbers.3 low.tight.0 low.tight.1 low.tight.2 low.tight.3 low.independent one_side in
       in_two f.0 f.1.0 f.1.1 f.1.2 f.1.3 f.1.4
 
-  pub ridge_closes : IsOuterRidge g.pair.dual g.points members without ⊎ ((t : List ℕ) × IsBeyond g.pair.dual g.points w order members without t)
-  ridge_closes =
+  pub split_closes : IsOuterRidge g.pair.dual g.points members without ⊎ IsCrossing g w order star s all is members member without split
+  split_closes =
       ⊎_elim (λ r. inr (inner_ridge g w order star s all is members member without split r.0 r.1 r.2)) (λ o. inl (outer_ridge o)) (some_or_all (λ z. on_side z <ℤ pos 0) (λ z. pos 0 ≤ℤ on_side z) (λ z. negative_or (on_side z)) (tight_points m g.points))
+
+pub ridge_closes : (g : Shape) (w : List ℤ) (order : List ℕ) (star : List (List ℕ)) → IsShape g → IsOrder (length g.points) order → IsStar g.pair.dual g.points w order star
+    → (members : List ℕ) → Contains star members → (without : ℕ) → Contains members without
+    → IsOuterRidge g.pair.dual g.points members without ⊎ ((t : List ℕ) × IsBeyond g.pair.dual g.points w order members without t)
+ridge_closes g w order star s all is members h without has =
+    let r = star_member g w order star s all is members h in
+    ⊎_elim inl (λ c. inr (c.a ∷ c.b ∷ c.c ∷ c.d ∷ [], c.beyond)) (split_closes g w order star s all is members r without (member_split g w order star s all is members r without has))

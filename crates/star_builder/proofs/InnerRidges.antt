@@ -29,6 +29,15 @@ across v z y l o = ⊎_elim (λ h. h) (λ h. absurd (no h)) (negative_or (v *ℤ
         clash : (p q : ℤ) → p <ℤ pos 0 → pos 0 ≤ℤ q → p ≡ q → ⊥
         clash p q k1 k2 e = absurd (omega (arith, ints, k1, k2, e))
 
+-- where one of two simplices on one side of a ridge has the other's fourth point above it, the other has not
+pub not_both : (V R W : ℤ) → pos 0 <ℤ (V *ℤ R) → pos 0 <ℤ (V *ℤ W) → pos 0 <ℤ (W *ℤ neg_ℤ R) → pos 0 <ℤ (V *ℤ V) → ⊥
+not_both V R W l1 l2 l3 l4 =
+    clash _ _ (positive_product (V *ℤ R) (V *ℤ W) l1 l2) (positive_product (V *ℤ V) (W *ℤ neg_ℤ R) l4 l3)
+    (ring (V ∷ R ∷ W ∷ []) (times (times (var 0) (var 0)) (times (var 2) (neg (var 1)))) (neg (times (times (var 0) (var 1)) (times (var 0) (var 2)))) refl)
+  where
+    clash : (p q : ℤ) → pos 0 <ℤ p → pos 0 <ℤ q → q ≡ neg_ℤ p → ⊥
+    clash p q k k2 f = absurd (omega (arith, ints, k, k2, f))
+
 -- ---- the other side
 
 module _ (xs : List Point) (v : ℕ → ℤ) (generic : IsGeneric xs v) (m : Vector) (a b c d : ℕ) (low : IsLow xs v m a b c d) where
@@ -93,20 +102,12 @@ module _ (xs : List Point) (v : ℕ → ℤ) (generic : IsGeneric xs v) (m : Vec
   pub one_on_side : (e : ℕ) → IsLow xs v m a b c e → pos 0 <ℤ (det *ℤ volume at v a b c e) → d ≡ e
   one_on_side e other side = ⊎_elim (λ q. q) (λ n. absurd (apart n)) (same_or d e)
     where
-      no : (V R W : ℤ) → pos 0 <ℤ (V *ℤ R) → pos 0 <ℤ (V *ℤ W) → pos 0 <ℤ (W *ℤ neg_ℤ R) → pos 0 <ℤ (V *ℤ V) → ⊥
-      no V R W l1 l2 l3 l4 =
-          clash _ _ (positive_product (V *ℤ R) (V *ℤ W) l1 l2) (positive_product (V *ℤ V) (W *ℤ neg_ℤ R) l4 l3)
-          (ring (V ∷ R ∷ W ∷ []) (times (times (var 0) (var 0)) (times (var 2) (neg (var 1)))) (neg (times (times (var 0) (var 1)) (times (var 0) (var 2)))) refl)
-        where
-          clash : (p q : ℤ) → pos 0 <ℤ p → pos 0 <ℤ q → q ≡ neg_ℤ p → ⊥
-          clash p q k k2 f = absurd (omega (arith, ints, k, k2, f))
-
       flip : {i j : ℕ} → i ≢ j → j ≢ i
       flip n q = n (sym q)
 
       apart : d ≢ e → ⊥
       apart n =
-          no (volume at v a b c d) (rise at v a b c d e) (volume at v a b c e)
+          not_both (volume at v a b c d) (rise at v a b c d e) (volume at v a b c e)
           (low.above e other.numbers.3
           (flip (first_apart e other)) (flip (second_apart e other)) (flip (low_apart xs v m a b c e other)) (flip n) other.tight.3)
           side

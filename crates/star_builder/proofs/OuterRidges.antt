@@ -68,7 +68,7 @@ module _ (g : Shape) (s : IsShape g) (facet : ℕ) (number : IsNumberOf g.pair.d
   place = place_of_point g.points
 
   -- a dual vertex is at least -1 at each point
-  point_over : (f : Vector) → Contains g.pair.dual f → (k : ℕ) → IsNumberOf g.points k → negsuc 0 ≤ℤ dot f (place k)
+  pub point_over : (f : Vector) → Contains g.pair.dual f → (k : ℕ) → IsNumberOf g.points k → negsuc 0 ≤ℤ dot f (place k)
   point_over f h k n = All-contains (λ f. negsuc 0 ≤ℤ dot f (place_of_point g.points k)) g.pair.dual f (number_point g s k n).inside.hull h
 
   entry_in : (f : ℕ) → IsNumberOf g.pair.dual f → Contains g.pair.dual (entry g.pair.dual f)

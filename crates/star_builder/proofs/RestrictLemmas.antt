@@ -27,7 +27,7 @@ Contains-from_map f xs d y c =
     let l : c.0 < length xs = (let e = length-map xs f in let m = c.1 in omega arith) in
     (get_or xs c.0 d, Contains-get_or xs c.0 d l, sym c.2 ∙ get_or-map f xs c.0 d y l)
 
-same_lists : (xs ys : List ℕ) → pointwise nat_eq xs ys ≡ true → xs ≡ ys
+pub same_lists : (xs ys : List ℕ) → pointwise nat_eq xs ys ≡ true → xs ≡ ys
 same_lists xs ys e = (slice_eq-Decides Decides-eqb xs ys (pointwise nat_eq xs ys) refl).0 e
 
 module _ (h : Patch) (star : List (List ℕ)) (gathered ordered : List (List ℕ)) (g : Gathers (λ i j k. AreTogether star i j k × AreLeft h i j k) [] gathered)

@@ -1,14 +1,16 @@
 -- A member of a star as a ridge by rising numbers and the fourth point.
 --     IsSplit      the three numbers of the ridge, and the member as a low simplex in this order
 --     split_member      a member without any one of its points
---     shares_ridge      a member that has the ridge
-use Rattle.std.proofs.Common.{◌≡◌, ℕ, ◌<◌, ◌⊎◌, inl, inr, sym, subst, arith, ℤ, List, [], ◌∷◌}
+--     shares_ridge, split_ridge      a member that has the ridge
+use Rattle.std.proofs.Common.{◌≡◌, ℕ, ◌<◌, ◌⊎◌, inl, inr, ⊎_elim, sym, subst, arith, ℤ, List, [], ◌∷◌}
 use Rattle.std.specs.Prelude.{Contains, AllPairs}
 use Rattle.std.proofs.lemmas.List.Elements.{All-cons, All-nil}
 use Rattle.std.proofs.lemmas.List.Kept.{AllPairs-cons}
 use Rattle.ntfe_nums.specs.Vectors.{Vector}
 use Rattle.ntfe_model.specs.declared.point.Point.{Point}
 use Rattle.ntfe_model.proofs.Listings.{ordered_unique}
+use Rattle.star_builder.specs.declared.ridge.Ridge.{Ridge}
+use Rattle.star_builder.specs.Ridges.{IsRidge}
 use Rattle.star_builder.proofs.FourPoints.{in_four}
 use Rattle.star_builder.proofs.LowSimplices.{IsLow, low_first, low_middle, low_last, has_first, has_second, has_third, has_fourth}
 
@@ -60,6 +62,28 @@ pub rising_same : (a b c d i j k l : ℕ) → a < b → b < c → c < d → i < 
 rising_same a b c d i j k l ab bc cd ij jk kl h =
     ordered_unique (λ x y. x < y) (λ x y p q. absurd (omega (arith, p, q))) (a ∷ b ∷ c ∷ d ∷ []) (i ∷ j ∷ k ∷ l ∷ []) (rising_pairs a b c d ab bc cd) (rising_pairs i j k l ij jk kl) h.0 h.1
 
+-- three rising numbers among four
+pub three_places : (a b c d : ℕ) → a < b → b < c → c < d → (i j k : ℕ) → i < j → j < k → (i ≡ a) ⊎ ((i ≡ b) ⊎ ((i ≡ c) ⊎ (i ≡ d))) → (j ≡ a) ⊎ ((j ≡ b) ⊎ ((j ≡ c) ⊎ (j ≡ d))) → (k ≡ a) ⊎ ((k ≡ b) ⊎ ((k ≡ c) ⊎ (k ≡ d)))
+    → ((i ≡ b) × (j ≡ c) × (k ≡ d)) ⊎ (((i ≡ a) × (j ≡ c) × (k ≡ d)) ⊎ (((i ≡ a) × (j ≡ b) × (k ≡ d)) ⊎ ((i ≡ a) × (j ≡ b) × (k ≡ c))))
+three_places a b c d ab bc cd i j k ij jk p q r = grind arith
+
+-- four are all of them
+pub four_places : (a b c d : ℕ) → a < b → b < c → c < d → (i j k l : ℕ) → i < j → j < k → k < l → (i ≡ a) ⊎ ((i ≡ b) ⊎ ((i ≡ c) ⊎ (i ≡ d))) → (j ≡ a) ⊎ ((j ≡ b) ⊎ ((j ≡ c) ⊎ (j ≡ d))) → (k ≡ a) ⊎ ((k ≡ b) ⊎ ((k ≡ c) ⊎ (k ≡ d)))
+    → (l ≡ a) ⊎ ((l ≡ b) ⊎ ((l ≡ c) ⊎ (l ≡ d))) → (i ≡ a) × (j ≡ b) × (k ≡ c) × (l ≡ d)
+four_places a b c d ab bc cd i j k l ij jk kl p q r s = by (three_places a b c d ab bc cd i j k ij jk p q r)
+  where
+    not_last : k ≡ d → ⊥
+    not_last e = ⊎_elim (λ h. absurd (omega (arith, ab, bc, cd, kl, e, h))) (λ h. ⊎_elim (λ h. absurd (omega (arith, bc, cd, kl, e, h))) (λ h. ⊎_elim (λ h. absurd (omega (arith, cd, kl, e, h))) (λ h. absurd (omega (arith, kl, e, h))) h) h) s
+
+    last : k ≡ c → l ≡ d
+    last e = ⊎_elim (λ h. absurd (omega (arith, ab, bc, kl, e, h))) (λ h. ⊎_elim (λ h. absurd (omega (arith, bc, kl, e, h))) (λ h. ⊎_elim (λ h. absurd (omega (arith, kl, e, h))) (λ h. h) h) h) s
+
+    by : ((i ≡ b) × (j ≡ c) × (k ≡ d)) ⊎ (((i ≡ a) × (j ≡ c) × (k ≡ d)) ⊎ (((i ≡ a) × (j ≡ b) × (k ≡ d)) ⊎ ((i ≡ a) × (j ≡ b) × (k ≡ c)))) → (i ≡ a) × (j ≡ b) × (k ≡ c) × (l ≡ d)
+    by (inl h) = absurd (not_last h.2)
+    by (inr (inl h)) = absurd (not_last h.2)
+    by (inr (inr (inl h))) = absurd (not_last h.2)
+    by (inr (inr (inr h))) = (h.0, h.1, h.2, last h.2)
+
 -- ---- a ridge and the fourth point
 
 pub record IsSplit (xs : List Point) (v : ℕ → ℤ) (m : Vector) (members : List ℕ) (without : ℕ) : Type 0 where
@@ -103,12 +127,8 @@ module _ (xs : List Point) (v : ℕ → ℤ) (m : Vector) (a b c d : ℕ) (ab : 
   -- a member that has three numbers i < j < k is these and a fourth
   pub shares_ridge : (i j k : ℕ) → i < j → j < k → Contains members i → Contains members j → Contains members k
       → (e : ℕ) × IsLow xs v m i j k e × HaveSame members (i ∷ j ∷ k ∷ e ∷ [])
-  shares_ridge i j k ij jk hi hj hk = by (places i j k ij jk (in_four a b c d i hi) (in_four a b c d j hj) (in_four a b c d k hk))
+  shares_ridge i j k ij jk hi hj hk = by (three_places a b c d ab bc cd i j k ij jk (in_four a b c d i hi) (in_four a b c d j hj) (in_four a b c d k hk))
     where
-      places : (i j k : ℕ) → i < j → j < k → (i ≡ a) ⊎ ((i ≡ b) ⊎ ((i ≡ c) ⊎ (i ≡ d))) → (j ≡ a) ⊎ ((j ≡ b) ⊎ ((j ≡ c) ⊎ (j ≡ d))) → (k ≡ a) ⊎ ((k ≡ b) ⊎ ((k ≡ c) ⊎ (k ≡ d)))
-          → ((i ≡ b) × (j ≡ c) × (k ≡ d)) ⊎ (((i ≡ a) × (j ≡ c) × (k ≡ d)) ⊎ (((i ≡ a) × (j ≡ b) × (k ≡ d)) ⊎ ((i ≡ a) × (j ≡ b) × (k ≡ c))))
-      places i j k p q r s t = grind arith
-
       made : (x y z e : ℕ) → IsLow xs v m x y z e → HaveSame (a ∷ b ∷ c ∷ d ∷ []) (x ∷ y ∷ z ∷ e ∷ []) → (i ≡ x) × (j ≡ y) × (k ≡ z)
           → (f : ℕ) × IsLow xs v m i j k f × HaveSame (a ∷ b ∷ c ∷ d ∷ []) (i ∷ j ∷ k ∷ f ∷ [])
       made x y z e l same q = (
@@ -123,3 +143,16 @@ module _ (xs : List Point) (v : ℕ → ℤ) (m : Vector) (a b c d : ℕ) (ab : 
       by (inr (inl p)) = made a c d b low_without_second same_without_second p
       by (inr (inr (inl p))) = made a b d c (low_last xs v m a b c d low) (same_last_two a b c d) p
       by (inr (inr (inr p))) = made a b c d low (λ n h. h, λ n h. h) p
+
+  -- a ridge by its three numbers, and the fourth point
+  pub split_ridge : (r : Ridge) (without : ℕ) → IsRidge members without r → Contains members without → IsLow xs v m r.a r.b r.c without × HaveSame members (r.a ∷ r.b ∷ r.c ∷ without ∷ [])
+  split_ridge r without h has = by (shares_ridge r.a r.b r.c h.ab h.bc h.first h.second h.third)
+    where
+      by : (e : ℕ) × IsLow xs v m r.a r.b r.c e × HaveSame (a ∷ b ∷ c ∷ d ∷ []) (r.a ∷ r.b ∷ r.c ∷ e ∷ []) → IsLow xs v m r.a r.b r.c without × HaveSame (a ∷ b ∷ c ∷ d ∷ []) (r.a ∷ r.b ∷ r.c ∷ without ∷ [])
+      by (e, l, same) = subst (λ j. IsLow xs v m r.a r.b r.c j × HaveSame (a ∷ b ∷ c ∷ d ∷ []) (r.a ∷ r.b ∷ r.c ∷ j ∷ [])) (sym (left (in_four r.a r.b r.c e without (same.0 without has)))) (l, same)
+        where
+          left : (without ≡ r.a) ⊎ ((without ≡ r.b) ⊎ ((without ≡ r.c) ⊎ (without ≡ e))) → without ≡ e
+          left (inl q) = absurd (h.not_a (sym q))
+          left (inr (inl q)) = absurd (h.not_b (sym q))
+          left (inr (inr (inl q))) = absurd (h.not_c (sym q))
+          left (inr (inr (inr q))) = q

@@ -1,7 +1,8 @@
 pub mod Fours
 pub mod Facets
 pub mod Others
-pub mod Added
+pub mod Ridges
+pub mod Walks
 pub mod Outlines
 pub mod Gathered
 pub mod Frames

@@ -1,13 +1,57 @@
 //! The star of a list of heights.
-ghost use Rattle.std.specs.Prelude.{◌≡◌, length, IfOk};
-ghost use Rattle.ntfe_model.specs.Stars.{IsStar, order_of};
+ghost use Rattle.std.specs.Prelude.{◌≡◌, ◌+◌, ◌<◌, [], length, Contains, IfOk, OnOk};
+ghost use Rattle.ntfe_model.specs.Shapes.{IsShape};
+ghost use Rattle.ntfe_model.specs.Stars.{IsMember, IsStar, order_of};
+ghost use Rattle.star_builder.specs.Walks.{AddsFacet, AreAdded, IsSearchOf};
 
 use crate::facets::masks_of;
-use crate::rising_fours::add_all;
+use crate::first_member::first_member;
 use crate::search::Search;
 use crate::star::Star;
+use crate::walk::reach;
 use ntfe_model::{Geometry, Heights, List, Push};
 use std::alloc::{AllocError, Global};
+
+/// Adds the members in the facet at this place: one of them, and all that a walk over ridges reaches from it.
+fn add_facet(
+    alloc: Global,
+    geometry: &Geometry,
+    heights: &Heights,
+    search: &Search,
+    facet: u32,
+    simplices: &mut Vec<[u32; 4]>,
+) -> Result<(), AllocError>
+    requires shape { IsShape geometry.now }
+    requires search { IsSearchOf geometry.now heights.now search.now }
+    requires facet { facet < length search.now.dual.now }
+    ensures { OnOk result (AddsFacet geometry.now.pair.dual geometry.now.points heights.now (order_of search.now.push (length geometry.now.points)) (facet + 1) simplices.old.items simplices.new.items) }
+{
+    let Some(first) = first_member(search, facet) else {
+        return Ok(());
+    };
+    let reached = reach(alloc, geometry, heights, search.push, facet + 1, first)?;
+    simplices.extend_from_slice(reached.as_slice())?;
+    Ok(())
+}
+
+/// Adds all members, in the order in which they are reached.
+fn add_all(
+    alloc: Global,
+    geometry: &Geometry,
+    heights: &Heights,
+    search: &Search,
+    simplices: &mut Vec<[u32; 4]>,
+) -> Result<(), AllocError>
+    requires shape { IsShape geometry.now }
+    requires search { IsSearchOf geometry.now heights.now search.now }
+    requires none { simplices.old.items ≡ [] }
+    ensures { OnOk result (AreAdded geometry.now.pair.dual geometry.now.points heights.now (order_of search.now.push (length geometry.now.points)) (length geometry.now.pair.dual) simplices.new.items) }
+{
+    for place in 0..search.dual.len() {
+        add_facet(alloc, geometry, heights, search, place as u32, simplices)?;
+    }
+    Ok(())
+}
 
 /// The star of these heights over the origin, in lexicographic order: four independent points of a facet, by their
 /// numbers from 1, belong to it where every other point of the facet is above them. The heights decide this, and
@@ -35,7 +79,9 @@ pub fn build(
         masks: masks.as_slice(),
     };
     let mut simplices = Vec::new(alloc);
-    add_all(&search, &mut simplices)?;
+    add_all(alloc, geometry, heights, &search, &mut simplices)?;
+    simplices.sort_unstable();
+    simplices.dedup();
     Ok(Star {
         simplices: List::from_vec(simplices),
     })

@@ -2,11 +2,15 @@
 #![tactic(auto)]
 
 mod above;
+mod beyond_ridge;
 mod building;
+mod candidate;
 mod closing;
+mod crossing;
 mod extendable;
 mod facets;
 mod facing;
+mod first_member;
 mod four;
 mod frame;
 mod left_triples;
@@ -16,12 +20,14 @@ mod origin;
 mod outline;
 mod restricted;
 mod restriction;
-mod rising_fours;
+mod ridge;
 mod search;
 mod span;
 mod star;
 mod ties;
+mod walk;
 
+pub use beyond_ridge::beyond;
 pub use building::build;
 pub use closing::star_closes;
 pub use extendable::extendable_is_induced;

@@ -27,7 +27,7 @@ pub fn place(points: &[Point], number: u32) -> &Vec4
 
 /// The normal of three points: its product with a fourth is the determinant of the four.
 #[inline(always)]
-fn normal(a: &Vec4, b: &Vec4, c: &Vec4) -> [i64; 4]
+pub fn normal(a: &Vec4, b: &Vec4, c: &Vec4) -> [i64; 4]
     requires first { IsSmall a.now }
     requires second { IsSmall b.now }
     requires third { IsSmall c.now }
@@ -39,7 +39,7 @@ fn normal(a: &Vec4, b: &Vec4, c: &Vec4) -> [i64; 4]
 
 /// The scalar product of a normal and a point.
 #[inline(always)]
-fn product(n: &[i64; 4], x: &Vec4) -> i64
+pub fn product(n: &[i64; 4], x: &Vec4) -> i64
     requires large { AreWithin (2 ^ 36) n.now }
     requires small { IsSmall x.now }
     ensures value { result ≡ dot (vector n.now) x.now }

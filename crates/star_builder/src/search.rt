@@ -3,7 +3,7 @@ ghost use Rattle.std.specs.Prelude.{◌≡◌, ◌+◌, ◌<◌, ◌≤◌, true
 ghost use Rattle.ntfe_model.specs.Lists.{IsNumberOf};
 ghost use Rattle.ntfe_model.specs.Pairs.{IsSmall};
 ghost use Rattle.ntfe_model.specs.Points.{place_of_point};
-ghost use Rattle.ntfe_model.specs.Reflexive.{at, HasFacet};
+ghost use Rattle.ntfe_model.specs.Reflexive.{at, IsTight, HasFacet};
 ghost use Rattle.ntfe_model.specs.Stars.{IsMember, order_of};
 ghost use Rattle.ntfe_model.specs.TightBits.{AreTightBits, IsFacetOf};
 ghost use Rattle.star_builder.specs.Facets.{AreMasks};
@@ -80,6 +80,16 @@ impl Search<'_> {
         if p == four.a || p == four.b || p == four.c || p == four.d {
             return false;
         }
+        is_tight(&self.dual[facet as usize], place(self.points, p))
+    }
+
+    /// Whether a point lies on the facet.
+    pub fn is_on(&self, facet: u32, p: u32) -> bool
+        requires facet { facet < length self.now.dual.now }
+        requires point { IsNumberOf self.now.points.now p }
+        ensures when_true { result ≡ true → IsTight (at self.now.dual.now facet) (place_of_point self.now.points.now p) }
+        ensures when_false { result ≡ false → ¬ (IsTight (at self.now.dual.now facet) (place_of_point self.now.points.now p)) }
+    {
         is_tight(&self.dual[facet as usize], place(self.points, p))
     }
 

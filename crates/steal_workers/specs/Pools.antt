@@ -13,10 +13,12 @@ pub record Pooled : Type 0 where
   pub start : Option (List ℕ)
   pub width : ℕ
 
-pub record IsPooled (p : Pooled) : Type 0 where
+-- it begins at a choice of its geometry, if at any, and its shelf has the items of its geometry
+pub record IsPooled (p : Pooled) (items : Shape) : Type 0 where
   pub start : IsStart p.geometry p.start
   pub low : 1 ≤ p.width
   pub high : p.width ≤ 62
+  pub shelf : items ≡ p.geometry
 
 -- what its server lists, in a form, up to a limit
 abbrev pub listed_by : Pooled → TextForm → Option ℕ → Listed

@@ -9,6 +9,8 @@ pub struct Crew {
     busy: u16,
     /// Those of them that are held back, since too many classes are found ahead of those that were written.
     held_back: u16,
+    /// Whether a server has begun, which writes what is found.
+    is_served: bool,
 }
 
 /// What a worker tells of itself.
@@ -43,12 +45,14 @@ pub struct News {
     pub ready: bool,
     /// How many classes may be found ahead of those that were written.
     pub room: u64,
+    /// Whether keys were given to others.
+    pub given: bool,
 }
 
 /// How many classes each worker may be ahead of those that were written: at first, and at most.
-const AHEAD_FIRST: u64 = 64;
+const AHEAD_FIRST: u64 = 256;
 
-const AHEAD_MOST: u64 = 256;
+const AHEAD_MOST: u64 = 1024;
 
 impl Crew {
     /// Nobody.
@@ -57,12 +61,18 @@ impl Crew {
             alive: 0,
             busy: 0,
             held_back: 0,
+            is_served: false,
         }
     }
 
     /// Whether a worker is alive.
     pub fn has_workers(self) -> bool {
         self.alive > 0
+    }
+
+    /// How many workers hold no key, as they told last.
+    pub fn idle(self) -> u16 {
+        self.alive.saturating_sub(self.busy)
     }
 
     /// Whether a worker holds keys.
@@ -73,6 +83,14 @@ impl Crew {
     /// Whether a worker holds keys and is not held back.
     pub fn is_working(self) -> bool {
         self.busy > self.held_back
+    }
+
+    /// The crew with a server.
+    pub fn with_server(self) -> Crew {
+        Crew {
+            is_served: true,
+            ..self
+        }
     }
 
     /// The crew with one worker more.
@@ -99,14 +117,18 @@ impl Crew {
             .held_back
             .saturating_sub(u16::from(before.is_held_back()));
         Crew {
-            alive: self.alive,
             busy: busy.saturating_add(u16::from(now.is_busy())),
             held_back: held_back.saturating_add(u16::from(now.is_held_back())),
+            ..self
         }
     }
 
-    /// How many more classes may be found where so many were found, and so many of them written.
+    /// How many more classes may be found where so many were found, and so many of them written: any number, where no
+    /// server has begun, for whom a worker could wait.
     pub fn room(self, found: u64, written: u64) -> u64 {
+        if !self.is_served {
+            return u64::MAX;
+        }
         let workers = u64::from(self.alive.max(1));
         let most = (workers * AHEAD_MOST).min((workers * AHEAD_FIRST).max(written));
         most.saturating_sub(found.saturating_sub(written))

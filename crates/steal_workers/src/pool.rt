@@ -18,6 +18,7 @@ use choice_board::Board;
 use crossbeam_utils::CachePadded;
 use nogood_store::Store;
 use ntfe_model::{Choice, Geometry, List};
+use shared_stream::Shelf;
 use std::alloc::{AllocError, Global};
 use std::marker::Model;
 use std::sync::ledger::{Blank, Ledger, Share};
@@ -33,7 +34,7 @@ pub(crate) enum Found {
     End,
 }
 
-/// What workers share: a board, and a store of certificates. A server writes what the board hands out. One moment under
+/// What workers share: a board, a store of certificates, and a shelf that lends items. A server writes what the board hands out. One moment under
 /// the lock is enough for each outcome, so the blocks are the same whatever the workers do.
 #[derive(Drop)]
 pub struct Pool<'g, L: Ledger> {
@@ -42,6 +43,8 @@ pub struct Pool<'g, L: Ledger> {
     pub(crate) start: Option<Choice>,
     pub(crate) width: u8,
     pub(crate) store: Store,
+    /// What lends items to the workers.
+    pub(crate) shelf: Shelf,
     /// The server waits here for outcomes.
     pub(crate) outcomes: Condvar,
     /// Workers wait here for keys.
@@ -56,7 +59,7 @@ impl<'g, L: Ledger> Model for Pool<'g, L> {
 
     ghost view = { λ p. record { geometry = p.geometry.now; start = p.start; width = p.width } };
 
-    ghost invariant = { λ p. IsPooled (record { geometry = p.geometry.now; start = p.start; width = p.width }) };
+    ghost invariant = { λ p. IsPooled (record { geometry = p.geometry.now; start = p.start; width = p.width }) p.shelf };
 }
 
 /// So many stakes, each of one part of the share.
@@ -76,6 +79,30 @@ fn stakes_of<L: Ledger>(
         stakes.push(Stake::new(part))?;
     }
     Ok(List::from_vec(stakes))
+}
+
+/// The worker takes over a given key that comes before those that it holds, and gives others to those that have none. True where
+/// it gave some.
+fn share_out<L: Ledger>(
+    board: &mut SharedBoard<L>,
+    worker: &mut Worker<'_, '_>,
+    room: u64,
+) -> Result<bool, AllocError>
+    ensures board { board.new ≡ board.old }
+    ensures worker { worker.new ≡ worker.old }
+{
+    if let Some(key) = board.take_given(worker.next_key()) {
+        worker.hold(key)?;
+    }
+    let mut any = false;
+    for _key in 0..board.wanted() {
+        let Some(key) = worker.offered(room) else {
+            break;
+        };
+        board.give(key);
+        any = true;
+    }
+    Ok(any)
 }
 
 impl<'g, L: Ledger> Pool<'g, L> {
@@ -117,13 +144,15 @@ impl<'g, L: Ledger> Pool<'g, L> {
         )?;
         let own_start = copied_start(alloc, &start)?;
         let store = Store::new(alloc)?;
-        let shared = SharedBoard::new(board, width, own_start, book);
+        let shelf = Shelf::new(alloc, geometry)?;
+        let shared = SharedBoard::new(alloc, board, width, own_start, book);
         let pool = Pool {
             alloc,
             geometry,
             start,
             width,
             store,
+            shelf,
             outcomes: Condvar::new(),
             offers: Condvar::new(),
             locked: CachePadded::new(Mutex::new(shared)),
@@ -149,14 +178,16 @@ impl<'g, L: Ledger> Pool<'g, L> {
             return Ok(None);
         }
         worker.settle_on(board, mine)?;
-        let news = board.news();
+        let mut news = board.news();
+        news.given = share_out(board, worker, news.room)?;
         let doing = worker.doing(&news, board.least());
         board.set_crew(board.crew().with_told(worker.told(), doing));
         worker.tell(doing);
         Ok(Some(news))
     }
 
-    /// A copy of the least open key for a worker that has found no other, where no worker is busy; then it counts as busy.
+    /// A key for a worker that has found no other: one that was given to others, else a copy of the least open one, where no
+    /// worker is busy; then it counts as busy.
     pub(crate) fn least_key<R: Wait>(
         &self,
         rt: &R,
@@ -167,13 +198,17 @@ impl<'g, L: Ledger> Pool<'g, L> {
         let mut guard = self.locked.lock(rt);
         let board = &mut *guard;
         let crew = board.crew();
+        let given = board.take_given(None);
         let Some(key) = board.least() else {
             return Ok(Found::End);
         };
-        if crew.is_busy() {
+        if let Some(key) = given {
+            worker.hold(key)?;
+        } else if crew.is_busy() {
             return Ok(Found::Nothing);
+        } else {
+            worker.hold(key.try_clone(self.alloc)?)?;
         }
-        worker.hold(key.try_clone(self.alloc)?)?;
         board.set_crew(crew.with_told(worker.told(), Told::Works));
         worker.tell(Told::Works);
         Ok(Found::Key)
@@ -204,6 +239,13 @@ impl<'g, L: Ledger> Pool<'g, L> {
         board.set_crew(crew.with_told(worker.told(), Told::Works));
         worker.tell(Told::Works);
         Ok(Found::Key)
+    }
+
+    /// The server begins.
+    pub(crate) fn begin_serving<R: Wait>(&self, rt: &R) {
+        let mut guard = self.locked.lock(rt);
+        let board = &mut *guard;
+        board.set_crew(board.crew().with_server());
     }
 
     /// A worker begins.

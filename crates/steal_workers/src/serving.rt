@@ -1,5 +1,5 @@
 //! The server of a pool, which writes what the workers find.
-ghost use Rattle.std.specs.Prelude.{◌≡◌, ◌<◌, ◌≤◌, ◌⊎◌, IfOk, IfErr, IfSome, OnOk, OnErr, Ok, Err};
+ghost use Rattle.std.specs.Prelude.{◌≡◌, ◌<◌, ◌≤◌, ◌⊎◌, IfOk, IfErr, IfSome, OnOk, OnErr, Ok, Err, true};
 ghost use Rattle.io_edge.specs.Causes.{Rose};
 ghost use Rattle.ntfe_model.specs.Keys.{IsStart};
 ghost use Rattle.choice_board.specs.Starts.{new_board};
@@ -59,11 +59,16 @@ impl<'g, L: Ledger> Pool<'g, L> {
         ensures cause { result.0 ≡ Served.WriteFault → Rose (K.faults out.old) (K.faults out.new) }
         ensures later { K.faults out.old ≤ K.faults out.new }
         ensures worker { result.1.worker ≡ 0 }
+        ensures memory { result.0 ≡ Served.Memory → result.1.memory ≡ true }
         ensures parts { result.1.parts ≡ 1 }
     {
         let listing = Listing::new(self.geometry, form, &self.start, limit, self.width);
         let mut mine = Tally::new(0, stake);
+        self.begin_serving(rt);
         let served = self.write_or_end(rt, &listing, &mut mine, out, gate);
+        if let Served::Memory = served {
+            mine.end_for_memory();
+        }
         self.close(rt);
         (served, mine)
     }
@@ -86,10 +91,7 @@ impl<'g, L: Ledger> Pool<'g, L> {
     {
         match self.write_listing(rt, listing, mine, out, gate) {
             Ok(served) => served,
-            Err(_) => {
-                mine.end_for_memory();
-                Served::Memory
-            }
+            Err(_) => Served::Memory,
         }
     }
 
@@ -233,7 +235,7 @@ impl<'g, L: Ledger> Pool<'g, L> {
         ensures tally { IsSameTally mine.old mine.new }
     {
         if helper.is_none() {
-            *helper = Some(Worker::new(self.alloc, self.geometry, self.width)?);
+            *helper = Some(Worker::new(self.alloc, self.geometry, &self.shelf, self.width)?);
         }
         let Some(worker) = helper else {
             return Ok(());
@@ -304,7 +306,7 @@ impl<'g, L: Ledger> Pool<'g, L> {
         ensures cause { result ≡ Err Served.WriteFault → Rose (K.faults out.old) (K.faults out.new) }
         ensures later { K.faults out.old ≤ K.faults out.new }
     {
-        match Worker::new(self.alloc, self.geometry, self.width) {
+        match Worker::new(self.alloc, self.geometry, &self.shelf, self.width) {
             Ok(mut worker) => worker.list_on(writer, board, out),
             Err(_) => Err(Served::Memory),
         }

@@ -1,5 +1,5 @@
 //! The board of a pool, with what is locked beside it.
-ghost use Rattle.std.specs.Prelude.{◌≡◌, ◌<◌, ◌↔◌, true, IsTrue};
+ghost use Rattle.std.specs.Prelude.{◌≡◌, ◌<◌, ◌↔◌, true, length, IsTrue, IfSome};
 ghost use Rattle.choice_board.specs.Starts.{new_board};
 ghost use Rattle.choice_board.specs.States.{IsSound};
 ghost use Rattle.steal_workers.specs.Boards.{IsOver};
@@ -13,7 +13,8 @@ use crate::look::Look;
 use crate::tally::Tally;
 use choice_board::{Board, Settled, Verdict};
 use ntfe_model::{Choice, Geometry, Key};
-use std::alloc::AllocError;
+use std::alloc::{AllocError, Global};
+use std::cmp::Ordering;
 use std::marker::Model;
 use std::sync::ledger::{Book, Ledger};
 
@@ -27,6 +28,8 @@ pub struct SharedBoard<L: Ledger> {
     start: Option<Choice>,
     book: Book<L>,
     crew: Crew,
+    /// Keys that workers gave to others. Each stays open on the board until it is settled, so no answer depends on them.
+    given: Vec<Key>,
 }
 
 impl<L: Ledger> Model for SharedBoard<L> {
@@ -68,9 +71,36 @@ fn is_last_of(board: &Board, last: &Option<Choice>) -> bool
     }
 }
 
+/// Whether one key comes before the other.
+fn is_less(one: &Key, other: &Key) -> bool {
+    one.0.as_slice().cmp(other.0.as_slice()) == Ordering::Less
+}
+
+/// The place of the least of the keys.
+fn least_place(keys: &[Key]) -> Option<usize>
+    ensures { IfSome result (λ p. p < length keys.now) }
+{
+    if keys.is_empty() {
+        return None;
+    }
+    let mut least = 0;
+    for place in 1..keys.len() {
+        if is_less(&keys[place], &keys[least]) {
+            least = place;
+        }
+    }
+    Some(least)
+}
+
 impl<L: Ledger> SharedBoard<L> {
     /// A new board with what is locked beside it.
-    pub fn new(board: Board, width: u8, start: Option<Choice>, book: Book<L>) -> SharedBoard<L>
+    pub fn new(
+        alloc: Global,
+        board: Board,
+        width: u8,
+        start: Option<Choice>,
+        book: Book<L>,
+    ) -> SharedBoard<L>
         requires board { board ≡ new_board board.geometry start }
         requires sound { IsSound board }
         requires book { book.total ≡ 0 }
@@ -82,6 +112,7 @@ impl<L: Ledger> SharedBoard<L> {
             start,
             book,
             crew: Crew::new(),
+            given: Vec::new(alloc),
         }
     }
 
@@ -104,7 +135,35 @@ impl<L: Ledger> SharedBoard<L> {
             open: self.board.least().is_some(),
             ready: self.board.is_ready(),
             room: self.crew.room(totals.classes, totals.written),
+            given: false,
         }
+    }
+
+    /// How many more keys the idle workers would take.
+    pub fn wanted(&self) -> usize {
+        usize::from(self.crew.idle()).saturating_sub(self.given.len())
+    }
+
+    /// Gives a key to the others. Where memory is short it is dropped.
+    pub fn give(&mut self, key: Key)
+        ensures { self.new ≡ self.old }
+    {
+        let _ = self.given.push(key);
+    }
+
+    /// Takes the least given key, if it comes before this one or there is none to come before.
+    pub fn take_given(&mut self, next: Option<&Key>) -> Option<Key>
+        ensures { self.new ≡ self.old }
+    {
+        let place = least_place(&self.given)?;
+        let comes_first = match next {
+            Some(next) => is_less(&self.given[place], next),
+            None => true,
+        };
+        if !comes_first {
+            return None;
+        }
+        Some(self.given.remove(place))
     }
 
     /// Whether the board is of this geometry and width.

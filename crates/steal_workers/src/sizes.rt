@@ -1,48 +1,45 @@
-//! About how much work lies under a key.
+//! About how many classes lie under a key, as a worker learns it.
 
 use ntfe_model::{Geometry, Key};
 use std::alloc::{AllocError, Global};
 
-/// The greatest size that is told, as a power of two.
-const MOST_BITS: u32 = 62;
+/// So many keys of a length tell how large such a key is.
+const KNOWN_FROM: u64 = 2;
 
-/// Sizes of the pieces of a listing: about how many choices begin with a key. A two-face of n points counts for
-/// 2^(n - 3) items. No answer depends on it, only how work is shared.
+/// How many keys of each length a worker probed, and how many classes it found. Each class lies under one key of each
+/// length, so the classes divided by the keys of a length tell how many lie under such a key. No answer depends on it,
+/// only how work is shared.
 #[derive(Drop)]
 pub struct Sizes {
-    /// For each length of a key, the size as a power of two.
-    bits: Vec<u32>,
-}
-
-/// What one two-face adds.
-fn bits_of(points: usize) -> u32 {
-    points.saturating_sub(3).min(62) as u32
+    keys: Vec<u64>,
+    classes: u64,
 }
 
 impl Sizes {
-    /// The sizes of a geometry's keys.
+    /// Nothing was probed.
     ///
     /// # Errors
     /// `AllocError` where memory is short.
     pub fn new(alloc: Global, geometry: &Geometry) -> Result<Sizes, AllocError> {
-        let mut left = 0_u32;
-        for face in geometry.faces() {
-            left = left.saturating_add(bits_of(face.points.as_slice().len()));
-        }
-        let mut bits = Vec::with_capacity(alloc, geometry.faces().len() + 1)?;
-        bits.push(left)?;
-        for face in geometry.faces() {
-            left = left.saturating_sub(bits_of(face.points.as_slice().len()));
-            bits.push(left)?;
-        }
-        Ok(Sizes { bits })
+        Ok(Sizes {
+            keys: vec![in alloc; 0; geometry.faces().len() + 1]?,
+            classes: 0,
+        })
     }
 
-    /// About how many choices begin with the key, as a power of two.
-    pub fn bits_under(&self, key: &Key) -> u32 {
-        match self.bits.get(key.0.as_slice().len()) {
-            Some(bits) => (*bits).min(MOST_BITS),
-            None => 0,
+    /// Counts a key that was probed.
+    pub fn count(&mut self, key: &Key, is_class: bool) {
+        if let Some(count) = self.keys.get_mut(key.0.as_slice().len()) {
+            *count = count.saturating_add(1);
+        }
+        self.classes = self.classes.saturating_add(u64::from(is_class));
+    }
+
+    /// About how many classes lie under the key; none where too few keys of its length were probed.
+    pub fn under(&self, key: &Key) -> Option<u64> {
+        match self.keys.get(key.0.as_slice().len()) {
+            Some(count) if *count >= KNOWN_FROM => Some(self.classes / *count),
+            _ => None,
         }
     }
 }

@@ -17,11 +17,11 @@ use crate::sizes::Sizes;
 use crate::tally::Tally;
 use crate::writer::Writer;
 use choice_board::{Board, Verdict};
-use fine_stream::OwnBook;
 use io_edge::Sink;
 use nogood_set::NogoodSet;
 use nogood_store::{Reader, Store};
 use ntfe_model::{Geometry, ITEM_LIMIT, Key};
+use shared_stream::{Shelf, ShelfBook};
 use std::alloc::{AllocError, Global};
 use std::cmp::Ordering;
 use std::collections::VecDeque;
@@ -38,8 +38,11 @@ const SHARED_MOST: u32 = 64;
 /// The most keys that are worked in one turn.
 const TURN_MOST: u32 = 32;
 
-/// The least size of a key that is offered to others, as a power of two.
-const OFFERED_BITS: u32 = 3;
+/// About so many classes at least lie under a key that is offered to others.
+const OFFERED_LEAST: u64 = 4;
+
+/// A key is offered where about so many times what lies under it may be found.
+const OFFERED_PART: u64 = 4;
 
 /// How often a worker is held back while no worker works, until it takes the least open key.
 const WAITS_MOST: u32 = 50;
@@ -50,7 +53,7 @@ pub struct Worker<'s, 'g> {
     alloc: Global,
     geometry: &'g Geometry,
     prober: Prober<'g>,
-    book: OwnBook,
+    book: ShelfBook<'s>,
     set: NogoodSet<'s>,
     reader: Reader,
     /// How many certificates it shared.
@@ -97,34 +100,37 @@ fn is_key(key: &Key, geometry: &Geometry) -> bool
     numbers[stem] <= ITEM_LIMIT && are_below_limit(&numbers[..stem])
 }
 
-/// Takes the first of the keys but the last that is neither too small nor too large to be offered to others.
+/// Takes the first of the keys but the last that is known to be neither too small nor too large to be offered to others.
 fn take_offered(held: &mut Vec<Key>, sizes: &Sizes, room: u64) -> Option<Key> {
     let spare = held.len().saturating_sub(1);
     for place in 0..spare {
-        let bits = sizes.bits_under(&held[place]);
-        if bits >= OFFERED_BITS && 1_u64 << bits.min(62) <= room {
-            return Some(held.remove(place));
+        if let Some(size) = sizes.under(&held[place]) {
+            if size >= OFFERED_LEAST && size <= room / OFFERED_PART {
+                return Some(held.remove(place));
+            }
         }
     }
     None
 }
 
 impl<'s, 'g> Worker<'s, 'g> {
-    /// A worker that holds no key. The width is from 1 to 62.
+    /// A worker that holds no key. Its items are lent from the shelf. The width is from 1 to 62.
     ///
     /// # Errors
     /// `AllocError` where memory is short.
     pub fn new(
         alloc: Global,
         geometry: &'g Geometry,
+        shelf: &'s Shelf,
         width: u8,
     ) -> Result<Worker<'s, 'g>, AllocError>
+        requires shelf { shelf.now ≡ geometry.now }
         requires low { 1 ≤ width }
         requires high { width ≤ 62 }
         ensures { IfOk result (λ w. w ≡ record { geometry = geometry.now; width = width }) }
     {
         let prober = Prober::new(alloc, geometry, width)?;
-        let book = OwnBook::new(alloc, geometry)?;
+        let book = ShelfBook::new(alloc, shelf, geometry)?;
         let sizes = Sizes::new(alloc, geometry)?;
         Ok(Worker {
             alloc,
@@ -200,6 +206,11 @@ impl<'s, 'g> Worker<'s, 'g> {
         }
     }
 
+    /// The key that it works next.
+    pub fn next_key(&self) -> Option<&Key> {
+        self.held.last()
+    }
+
     /// Whether the key comes before the one that it works next, or it holds none.
     pub fn comes_first(&self, key: &Key) -> bool {
         match self.held.last() {
@@ -267,6 +278,7 @@ impl<'s, 'g> Worker<'s, 'g> {
         let verdict = self.prober.find(&key, &mut self.book, &self.set)?;
         self.share(rt, store, before, &verdict);
         self.hold_opened(&key, &verdict)?;
+        self.sizes.count(&key, matches!(verdict, Verdict::Class(_)));
         self.found.push_back(FoundKey { key, verdict })?;
         Ok(())
     }

@@ -123,7 +123,7 @@ impl<'g, L: Ledger> Pool<'g, L> {
         ensures seat { IsSameSeat seat.old seat.new }
         ensures tally { IsSameTally mine.old mine.new }
     {
-        let mut worker = Worker::new(self.alloc, self.geometry, self.width)?;
+        let mut worker = Worker::new(self.alloc, self.geometry, &self.shelf, self.width)?;
         self.enter(rt);
         let ended = self.take_turns(rt, seat, &mut worker, mine, gate);
         mine.count_blocked(worker.blocked());
@@ -230,7 +230,8 @@ impl<'g, L: Ledger> Pool<'g, L> {
         if news.ready || !news.open {
             self.outcomes.notify_one();
         }
-        if !offers_left && offer(seat, worker, news.room) {
+        let offered = !offers_left && offer(seat, worker, news.room);
+        if offered || news.given {
             self.offers.notify_all();
         }
         Ok(news.open)

@@ -6,10 +6,7 @@ use Rattle.ntfe_model.specs.Solver.{Line, Table, solved_for, with_put_in, IsRedu
 use Rattle.ntfe_model.specs.Solver.Move.{pivot, feasible, infeasible}
 use Rattle.strict_solver.proofs.Moves.{moves_same}
 use Rattle.strict_solver.proofs.One.{reduced_same}
-
-abbrev line_or : Line → Option Line → Line
-line_or r None = r
-line_or r (Some q) = q
+use Rattle.strict_solver.proofs.Entries.{line_or}
 
 abbrev line_in : Line → Option (Option Line) → Line
 line_in r None = r

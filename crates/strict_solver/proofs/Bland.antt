@@ -8,6 +8,7 @@ use Rattle.strict_solver.specs.Equations.{Holds}
 use Rattle.strict_solver.proofs.Pivots.{IsTable, pivot-table, pivot-holds, pivot-held, pivot-gone, pivot-kept, pivot-basic, pivot-left, pivot-leaving, pivot-entering}
 use Rattle.strict_solver.proofs.Moves.{IsMove, first_slack-found, entering-found, IsGone}
 use Rattle.strict_solver.proofs.Values.{bland}
+use Rattle.strict_solver.proofs.Entries.{basic_or_not, not_both}
 
 abbrev Lines : Type 0
 Lines = List (Option Line)
@@ -28,13 +29,6 @@ IsLoaded columns s = (k : ℕ) → k < columns → get_or s k None ≡ None → 
 
 abbrev pub IsBasic : List (Option Line) → ℕ → Type 0
 IsBasic s z = (r : Line) × (get_or s z None ≡ Some r)
-
-basic_or_not : (o : Option Line) → ((r : Line) × (o ≡ Some r)) ⊎ (o ≡ None)
-basic_or_not None = inr refl
-basic_or_not (Some r) = inl (r, refl)
-
-not_both : (o : Option Line) (r : Line) → o ≡ Some r → o ≡ None → ⊥
-not_both o r e f = cc
 
 pub row-of : (columns x y : ℕ) (s : Lines) → IsMove columns s x y → (columns ≤ x) × (columns ≤ y)
 row-of columns x y s m =

@@ -14,7 +14,8 @@ use Rattle.strict_solver.specs.Continuing.{wider, wider_line}
 use Rattle.strict_solver.proofs.Moves.{IsGone, first_slack-found, no_first_slack, int_eq-zero, int_eq-some}
 use Rattle.strict_solver.proofs.Pivots.{IsTable}
 use Rattle.strict_solver.proofs.Wider.{zero_after}
-use Rattle.strict_solver.proofs.Following.{Follows, not_both}
+use Rattle.strict_solver.proofs.Following.{Follows}
+use Rattle.strict_solver.proofs.Entries.{basic_or_not, not_both, both_some, none_of}
 
 -- ---- searches of one number more
 find-more : (f g : ℕ → Bool) (a n : ℕ) → ((j : ℕ) → a ≤ j → j < a + n → g j ≡ f j) → (x : ℕ) → find f (range_with_len a n) ≡ Some x → find g (range_with_len a (suc n)) ≡ Some x
@@ -53,17 +54,6 @@ and3_false true true = refl
 and3_false true false = refl
 and3_false false true = refl
 and3_false false false = refl
-
-basic_or_not : (o : Option Line) → ((r : Line) × (o ≡ Some r)) ⊎ (o ≡ None)
-basic_or_not None = inr refl
-basic_or_not (Some r) = inl (r, refl)
-
-both_some : (o : Option Line) (q r : Line) → o ≡ Some q → o ≡ Some r → q ≡ r
-both_some o q r e f = cc
-
-none_of : (o : Option Line) → is_none o ≡ true → o ≡ None
-none_of None h = refl
-none_of (Some r) h = cc
 
 not_le : (m n : ℕ) → n < m → nat_le m n ≡ false
 not_le m n h = grind (arith, nat_tests)

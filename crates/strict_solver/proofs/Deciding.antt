@@ -3,7 +3,7 @@
 --     IsLineFor columns q s l      l is that line
 --     loads-least                  the least height that is not basic with a coefficient in l that is not 0
 --     loads-none                   q's slack, where there is no such height
-use Rattle.std.proofs.Common.{◌≡◌, ◌≢◌, ℕ, zero, suc, ◌+◌, ◌<◌, ◌≤◌, ◌⊎◌, inl, inr, refl, sym, ap, ◌∙◌, subst, arith, ℤ, pos, negsuc, ◌+ℤ◌, ◌-ℤ◌, ◌*ℤ◌, List, [], ◌∷◌, ◌++◌, replicate, length, length-append, get_or, Some, None, Option}
+use Rattle.std.proofs.Common.{◌≡◌, ◌≢◌, ℕ, suc, ◌+◌, ◌<◌, ◌≤◌, ◌⊎◌, inl, inr, refl, sym, ap, ◌∙◌, subst, arith, ℤ, pos, negsuc, ◌+ℤ◌, ◌-ℤ◌, ◌*ℤ◌, List, [], ◌∷◌, ◌++◌, replicate, length, length-append, get_or, Some, None, Option}
 use Rattle.std.specs.Prelude.{is_none}
 use Rattle.std.proofs.lemmas.Int.{ints}
 use Rattle.std.proofs.lemmas.List.{get_or_append_left}
@@ -17,13 +17,10 @@ use Rattle.strict_solver.proofs.Forms.{zero_factor}
 use Rattle.strict_solver.proofs.Pivots.{IsTable, run-holds, run-held}
 use Rattle.strict_solver.proofs.Bland.{IsLoaded}
 use Rattle.strict_solver.proofs.Runs.{AreRows, start_lines, start-get, start-at, start-length, start-is_table, start-loading, run-loading, end-loaded}
-use Rattle.strict_solver.proofs.Following.{not_both}
 use Rattle.strict_solver.proofs.Directions.{combination-one, combination-more, IsDirection, direction_values, direction}
 use Rattle.strict_solver.proofs.GoingOn.{start-wider, rows_short, GoesOn, end-length, end-table, going_on-feasible}
-
-basic_or_not : (o : Option Line) → ((r : Line) × (o ≡ Some r)) ⊎ (o ≡ None)
-basic_or_not None = inr refl
-basic_or_not (Some r) = inl (r, refl)
+use Rattle.strict_solver.proofs.Entries.{basic_or_not, not_both}
+use Rattle.strict_solver.proofs.Feasible.{combination-zeros}
 
 -- ---- values of the start
 pub last-get : (vs : List ℤ) (t : ℤ) → get_or (vs ++ t ∷ []) (length vs) (pos 0) ≡ t
@@ -39,13 +36,8 @@ combination-front [] vs t l = refl
 combination-front (e ∷ es) [] t l = absurd (omega arith)
 combination-front (e ∷ es) (v ∷ vs) t l = ap (λ z. e *ℤ v +ℤ z) (combination-front es vs t (omega arith))
 
-no_sum : (n : ℕ) (vs : List ℤ) → combination (replicate n (pos 0)) vs ≡ pos 0
-no_sum zero vs = refl
-no_sum (suc n) [] = refl
-no_sum (suc n) (v ∷ vs) = (λ i. zero_product v i +ℤ no_sum n vs i)
-
 pub combination-padded : (es vs : List ℤ) (n : ℕ) → combination (es ++ replicate n (pos 0)) vs ≡ combination es vs
-combination-padded [] vs n = no_sum n vs
+combination-padded [] vs n = combination-zeros n vs
 combination-padded (e ∷ es) [] n = refl
 combination-padded (e ∷ es) (v ∷ vs) n = ap (λ z. e *ℤ v +ℤ z) (combination-padded es vs n)
 

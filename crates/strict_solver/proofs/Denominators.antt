@@ -5,14 +5,11 @@ use Rattle.std.proofs.lemmas.Nat.Gcd.{dvd_refl, dvd-zero, dvd_trans, same_from_I
 use Rattle.std.proofs.Math.Nat.{dvd-mul_right, dvd-mul_left, mul-div_cancel', pos_of_dvd_of_pos, dvd_of_mul-dvd-mul_left, eq-one_of_dvd-one, mul-dvd-mul_left, mul-dvd-mul_right}
 use Rattle.strict_solver.specs.Scales.{gcd_of, reduced_denominator, common_multiple}
 use Rattle.strict_solver.proofs.Reduced.{gcd_by-is}
-use Rattle.strict_solver.proofs.One.{Lowest, lowest}
+use Rattle.strict_solver.proofs.One.{Lowest, lowest, cancels}
 
 pub gcd_of-is : (a b : ℕ) → IsGcd a b (gcd_of a b)
 unfolding gcd_of
 gcd_of-is a b = gcd_by-is b a b (omega arith)
-
-pub cancels : (k x y : ℕ) → 0 < k → k * x ≡ k * y → x ≡ y
-cancels k x y h e = grind arith
 
 pub quotient_of : (d n : ℕ) → d ∣ n → n ≡ d * (n / d)
 quotient_of d n h = sym (mul-div_cancel' d h)

@@ -8,6 +8,7 @@ use Rattle.ntfe_model.specs.Solver.{Line, coefficient_at}
 use Rattle.strict_solver.specs.Equations.{combination, Holds}
 use Rattle.strict_solver.proofs.Pivots.{IsTable}
 use Rattle.strict_solver.proofs.Values.{common, values_by, common-positive, length-values, value-none, value-some, combination-none}
+use Rattle.strict_solver.proofs.Entries.{basic_or_not, not_both, line_or}
 
 -- ---- sums
 pub combination-one : (es vs : List ℤ) (y : ℕ) → ((k : ℕ) → k ≢ y → (get_or es k (pos 0) ≡ pos 0) ⊎ (get_or vs k (pos 0) ≡ pos 0)) → combination es vs ≡ get_or es y (pos 0) *ℤ get_or vs y (pos 0)
@@ -59,10 +60,6 @@ seen y [] = []
 seen y (None ∷ s) = None ∷ seen y s
 seen y (Some r ∷ s) = Some (seen_line y r) ∷ seen y s
 
-abbrev line_or : Line → Option Line → Line
-line_or r None = r
-line_or r (Some q) = q
-
 seen-length : (y : ℕ) (s : List (Option Line)) → length (seen y s) ≡ length s
 seen-length y [] = refl
 seen-length y (None ∷ s) = ap suc (seen-length y s)
@@ -88,13 +85,6 @@ seen-from y (None ∷ s) zero r e = cc
 seen-from y (None ∷ s) (suc z) r e = seen-from y s z r e
 seen-from y (Some q ∷ s) zero r e = (q, refl, ap (line_or r) (sym e))
 seen-from y (Some q ∷ s) (suc z) r e = seen-from y s z r e
-
-basic_or_not : (o : Option Line) → ((r : Line) × (o ≡ Some r)) ⊎ (o ≡ None)
-basic_or_not None = inr refl
-basic_or_not (Some r) = inl (r, refl)
-
-not_both : (o : Option Line) (r : Line) → o ≡ Some r → o ≡ None → ⊥
-not_both o r e f = cc
 
 module _ (s : List (Option Line)) (w : IsTable s) (y : ℕ) (l : y < length s) (n : get_or s y None ≡ None) where
   pub direction_values : List ℤ

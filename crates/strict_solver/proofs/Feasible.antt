@@ -5,13 +5,14 @@ use Rattle.ntfe_model.specs.Solver.{Line, start_line, start_table, first_negativ
 use Rattle.ntfe_nums.proofs.Ring.{ring, product_zero, zero_product}
 use Rattle.ntfe_nums.proofs.Ring.Expression.{var, num, plus, minus, times}
 use Rattle.strict_solver.specs.Equations.{combination, Holds}
-use Rattle.strict_solver.proofs.Forms.{back, positive_some}
+use Rattle.strict_solver.proofs.Forms.{back}
 use Rattle.strict_solver.proofs.Pivots.{IsTable, in_table, run-table, run-length, run-held}
 use Rattle.strict_solver.proofs.Moves.{no_first_slack, moving-feasible, move_of-feasible, int_lt-not_zero}
-use Rattle.strict_solver.proofs.Values.{common, values_by, common-positive, length-values, value-none, value-some, values-hold, product_at_least, factor_at_least}
+use Rattle.strict_solver.proofs.Values.{common, values_by, common-positive, length-values, value-none, value-some, values-hold, factor_at_least}
 use Rattle.strict_solver.proofs.Runs.{AreRows, start_lines, start-at, start-length, start-is_table}
+use Rattle.ntfe_nums.proofs.Signs.{positive_some, product_not_negative}
 
-combination-zeros : (n : ℕ) (vs : List ℤ) → combination (replicate n (pos 0)) vs ≡ pos 0
+pub combination-zeros : (n : ℕ) (vs : List ℤ) → combination (replicate n (pos 0)) vs ≡ pos 0
 combination-zeros zero vs = refl
 combination-zeros (suc n) [] = refl
 combination-zeros (suc n) (v ∷ vs) = (λ i. zero_product v i +ℤ combination-zeros n vs i)
@@ -79,8 +80,8 @@ module _ (columns : ℕ) (rs : List (List ℤ)) (width : Option ℕ) (heights : 
           factor_at_least r.d _ (end_table z r e).positive
           (let P : ℤ → Type 0 = λ k. pos 0 ≤ℤ k in
           subst P (sym (value-some (pos (last_scale f.scales)) f.end.lines z r e))
-          (product_at_least (pos (last_scale f.scales) *ℤ common f.end.lines) r.c
-          (product_at_least (pos (last_scale f.scales)) (common f.end.lines) (omega (arith, ints)) (weak _ common_positive))
+          (product_not_negative (pos (last_scale f.scales) *ℤ common f.end.lines) r.c
+          (product_not_negative (pos (last_scale f.scales)) (common f.end.lines) (omega (arith, ints)) (weak _ common_positive))
           (int_lt-not_zero r.c (no_first_slack columns _ f.end.lines none z r c (in_table f.end.lines z r e) e))))
         where
           weak : (k : ℤ) → pos 0 <ℤ k → pos 0 ≤ℤ k

@@ -4,8 +4,8 @@
 --     pivot-follows              a pivot on a slack of s is one of u, and the tables after it follow
 --     load-follows               the pivot of the last slack on a height that no other slack has
 --     next_follows, moving-follows      what is chosen in s is chosen in u, but for the last slack
-use Rattle.std.proofs.Common.{◌≡◌, ◌≢◌, ℕ, zero, suc, ◌<◌, ◌≤◌, ◌⊎◌, inl, inr, true, refl, sym, ap, ◌∙◌, subst, arith, pos, List, [], ◌∷◌, length, get_or, Some, None, Option}
-use Rattle.std.specs.Prelude.{slice_get, is_none}
+use Rattle.std.proofs.Common.{◌≡◌, ◌≢◌, ℕ, suc, ◌<◌, ◌≤◌, ◌⊎◌, inl, inr, sym, ap, ◌∙◌, subst, arith, pos, List, length, get_or, Some, None, Option}
+use Rattle.std.specs.Prelude.{is_none}
 use Rattle.std.proofs.lemmas.List.{get_or_past}
 use Rattle.ntfe_model.specs.Solver.{Line, coefficient_at, solved_for, with_put_in, IsReduced, IsNextLine, IsPivot}
 use Rattle.strict_solver.specs.Grids.{IsPivotable}
@@ -15,6 +15,7 @@ use Rattle.strict_solver.proofs.Moves.{IsGone}
 use Rattle.strict_solver.proofs.Pivots.{IsTable, in_table, get_there, pivot-leaving, pivot-entering, pivot-apart, pivot-new, pivot-left, pivot-kept, pivot-table, pivot-gone}
 use Rattle.strict_solver.proofs.Steps.{step_lines, step-is}
 use Rattle.strict_solver.proofs.Wider.{zero_after, solved-wider, put_in-wider, reduced-wider, wider-lowest, reduced-kept, solved-clear, put_in-clear}
+use Rattle.strict_solver.proofs.Entries.{basic_or_not, not_both, both_some, none_of, slice_none}
 
 -- each line is in lowest form
 abbrev pub AreLowest : List (Option Line) → Type 0
@@ -33,24 +34,6 @@ pub record Follows (columns : ℕ) (s u : List (Option Line)) (e : ℕ) : Type 0
   pub cleared : (j : ℕ) → j < e → e < columns → get_or s j None ≡ None → IsGone columns s j × (coefficient_at line j ≡ pos 0)
 
 -- ---- options
-none_of : (o : Option Line) → is_none o ≡ true → o ≡ None
-none_of None h = refl
-none_of (Some r) h = cc
-
-pub not_both : (o : Option Line) (r : Line) → o ≡ Some r → o ≡ None → ⊥
-not_both o r e f = cc
-
-basic_or_not : (o : Option Line) → ((r : Line) × (o ≡ Some r)) ⊎ (o ≡ None)
-basic_or_not None = inr refl
-basic_or_not (Some r) = inl (r, refl)
-
-both_some : (o : Option Line) (q r : Line) → o ≡ Some q → o ≡ Some r → q ≡ r
-both_some o q r e f = cc
-
-slice_none : (s : List (Option Line)) (z : ℕ) → z < length s → get_or s z None ≡ None → slice_get s z ≡ Some None
-slice_none [] z h e = absurd (omega arith)
-slice_none (o ∷ s) zero h e = ap Some e
-slice_none (o ∷ s) (suc z) h e = slice_none s z (omega arith) e
 
 -- ---- what a pivot makes basic
 module _ (x y : ℕ) (s t : List (Option Line)) (p : IsPivot x y s t) where

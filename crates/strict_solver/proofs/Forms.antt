@@ -10,6 +10,7 @@ use Rattle.ntfe_model.specs.Solver.{Line, coefficient_at, solved_for, with_put_i
 use Rattle.ntfe_nums.proofs.Ring.{ring, product_zero}
 use Rattle.ntfe_nums.proofs.Ring.Expression.{var, num, plus, minus, times, neg}
 use Rattle.strict_solver.specs.Equations.{combination, LineHolds}
+use Rattle.ntfe_nums.proofs.Signs.{positive_some, size_zero}
 
 pub combination-scaled : (k : ℤ) (es vs : List ℤ) → combination (map (λ e. k *ℤ e) es) vs ≡ k *ℤ combination es vs
 combination-scaled k [] vs = sym (product_zero k)
@@ -54,8 +55,6 @@ length_mapped g [] = refl
 length_mapped g (e ∷ es) = ap suc (length_mapped g es)
 
 -- ---- equations
-size_zero : (z : ℤ) → unsigned_abs z ≡ 0 → z ≡ pos 0
-size_zero z h = omega (arith, ints)
 
 no_product : (m n : ℕ) → 0 < m → m * n ≡ 0 → n ≡ 0
 no_product (suc m) n h e = omega arith
@@ -81,9 +80,6 @@ forth a b k p q i h = same_when a b (i ∙ ap (λ z. k *ℤ z) (no_difference p 
 
 pub back : (a b k p q : ℤ) → k ≢ pos 0 → a -ℤ b ≡ k *ℤ (p -ℤ q) → a ≡ b → p ≡ q
 back a b k p q n i h = same_when p q (zero_factor k (p -ℤ q) n (sym i ∙ no_difference a b h))
-
-pub positive_some : (z : ℤ) → pos 0 <ℤ z → z ≢ pos 0
-positive_some z h e = omega (arith, ints)
 
 pub sign_some : (z : ℤ) → z ≢ pos 0 → sign z ≢ pos 0
 sign_some (pos zero) h e = h refl

@@ -2,7 +2,7 @@
 --     goes_on                 each table that the run on P reaches is followed by one that the run on P and q reaches
 --     going_on-feasible       where P's run ends feasible, that table has nothing left to load: either q's slack is basic in it, or the run ends there, feasible
 --     going_on-infeasible     where P's run ends infeasible, so does that of P and q, with the same multipliers
-use Rattle.std.proofs.Common.{◌≡◌, ◌≢◌, ℕ, zero, suc, ◌+◌, ◌-◌, ◌<◌, ◌≤◌, ◌==◌, ◌⊎◌, inl, inr, true, false, cond, not, refl, sym, ap, ◌∙◌, subst, arith, ℤ, pos, negsuc, int_lt, List, [], ◌∷◌, ◌++◌, map, filter, replicate, length, length-append, get_or, Some, None, Option}
+use Rattle.std.proofs.Common.{◌≡◌, ◌≢◌, ℕ, zero, suc, ◌+◌, ◌-◌, ◌<◌, ◌≤◌, ◌==◌, ◌⊎◌, inl, inr, false, cond, not, refl, sym, ap, ◌∙◌, subst, arith, ℤ, pos, negsuc, int_lt, List, [], ◌∷◌, ◌++◌, map, filter, replicate, length, length-append, get_or, Some, None, Option}
 use Rattle.std.specs.Prelude.{is_none, unsigned_abs}
 use Rattle.std.specs.Option.{option_map_or}
 use Rattle.std.specs.List.{range_with_len}
@@ -22,13 +22,7 @@ use Rattle.strict_solver.proofs.Steps.{step_lines}
 use Rattle.strict_solver.proofs.Wider.{zero_after}
 use Rattle.strict_solver.proofs.Following.{Follows, AreLowest, pivot-lowest, pivot-follows, load-follows}
 use Rattle.strict_solver.proofs.Chosen.{IsLastLoad, next_follows, moving_follows}
-
-both_some : (o : Option Line) (q r : Line) → o ≡ Some q → o ≡ Some r → q ≡ r
-both_some o q r e f = cc
-
-none_of : (o : Option Line) → is_none o ≡ true → o ≡ None
-none_of None h = refl
-none_of (Some r) h = cc
+use Rattle.strict_solver.proofs.Entries.{both_some, none_of}
 
 -- ---- the starts
 zeros_more : (n : ℕ) → replicate (suc n) (pos 0) ≡ replicate n (pos 0) ++ pos 0 ∷ []

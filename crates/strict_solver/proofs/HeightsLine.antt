@@ -28,7 +28,7 @@ use Rattle.strict_solver.proofs.ShortRows.{factor_small}
 use Rattle.strict_solver.proofs.Moves.{first_slack-found, moving-infeasible}
 use Rattle.strict_solver.proofs.Values.{common, values_by, length-values, value-none, values-hold, value-some, combination-none}
 use Rattle.strict_solver.proofs.Placing.{coefficient_there}
-use Rattle.strict_solver.proofs.Denominators.{cancels, quotient_of}
+use Rattle.strict_solver.proofs.Denominators.{quotient_of}
 use Rattle.strict_solver.proofs.Scaling.{IsLeastScale, least_scale, scaling_is, ranged_length, ranged_get, height_is}
 use Rattle.strict_solver.proofs.Unique.{cancel, proportion, zero_right}
 use Rattle.strict_solver.proofs.Outcome.{are_rows}
@@ -40,6 +40,7 @@ use Rattle.strict_solver.proofs.Path.{end-heights, fails-here}
 use Rattle.strict_solver.proofs.SlackLines.{reached-table, still_some, lowest-same}
 use Rattle.strict_solver.proofs.Standing.{place-basic}
 use Rattle.strict_solver.proofs.StandingMoves.{loaded-table, raw, real}
+use Rattle.strict_solver.proofs.One.{cancels}
 
 pub heights_line : (b : Basis) (gathered low line : List ℤ) → length gathered ≡ b.columns + 2 → number gathered 0 ≡ b.denominator → ((k : ℕ) → k < b.columns → number gathered (k + 1) ≡ cell_at b.columns b.cells.items 1 k)
     → number gathered (b.columns + 1) ≡ pos 0 → IsLowered gathered low → line ≡ low → HasHeights b line

@@ -2,7 +2,6 @@
 use Rattle.std.proofs.Common.{◌≡◌, ◌≢◌, ℕ, zero, suc, ◌+◌, ◌-◌, ◌<◌, ◌≤◌, ◌==◌, ◌⊎◌, inl, inr, Bool, true, false, cond, refl, sym, ap, ◌∙◌, subst, arith, ℤ, pos, negsuc, ◌+ℤ◌, ◌*ℤ◌, ◌≤ℤ◌, neg_ℤ, int_lt, unsigned_abs, List, [], ◌∷◌, ◌++◌, map, filter, length, get_or, Some, None, Option}
 use Rattle.std.specs.List.{range_with_len}
 use Rattle.std.proofs.lemmas.Int.{ints}
-use Rattle.std.proofs.lemmas.Bool.Decides.{nat_tests}
 use Rattle.ntfe_model.specs.Solver.{Line, coefficient_at, start_table, first_negative, first_entering, multiplier_at, IsInfeasible}
 use Rattle.ntfe_nums.proofs.Ring.{ring, product_zero, zero_product, one_product}
 use Rattle.ntfe_nums.proofs.Ring.Expression.{var, num, plus, times, neg}
@@ -12,6 +11,7 @@ use Rattle.strict_solver.proofs.Moves.{first_slack-found, no_entering, moving-in
 use Rattle.strict_solver.proofs.Bland.{IsLoaded}
 use Rattle.strict_solver.proofs.Runs.{AreRows, start-get, start-length, start-is_table, start-loading, run-loading, end-loaded}
 use Rattle.strict_solver.proofs.Feasible.{start-combination}
+use Rattle.ntfe_nums.proofs.Comparisons.{same_from_test, other_from_test}
 
 -- the sum of the multipliers times what f says of their rows
 abbrev pub weighted : List (ℕ × ℤ) → (ℕ → ℤ) → ℤ
@@ -111,12 +111,6 @@ with_rows-slack [] us (r ∷ rs) (suc z) zero e h = absurd (omega arith)
 with_rows-slack [] us (r ∷ rs) (suc z) (suc j) e h = with_rows-slack [] us rs z j (omega arith) (omega arith)
 with_rows-slack (w ∷ ws) us rs zero j e h = absurd (omega arith)
 with_rows-slack (w ∷ ws) us rs (suc z) j e h = with_rows-slack ws us rs z j (omega arith) h
-
-same_true : (m n : ℕ) → (m == n) ≡ true → m ≡ n
-same_true m n h = grind (arith, nat_tests)
-
-same_false : (m n : ℕ) → (m == n) ≡ false → m ≢ n
-same_false m n h e = grind (arith, nat_tests)
 
 module _ (columns : ℕ) (rs : List (List ℤ)) (width : Option ℕ) (ms : List (ℕ × ℤ)) (w : AreRows columns rs) (f : IsInfeasible columns rs width ms) where
   end_table : IsTable f.end.lines
@@ -225,15 +219,15 @@ module _ (columns : ℕ) (rs : List (List ℤ)) (width : Option ℕ) (ms : List 
             ≡ cond b (f.row.d *ℤ combination (get_or rs j []) ws) (pos 0)
         each j h true e =
             let P : ℕ → Type 0 = λ k. coefficient_at f.row k ≡ pos 0 in
-            let z : coefficient_at f.row (columns + j) ≡ pos 0 = subst P (sym (same_true (columns + j) f.slack e)) ((end_table f.slack f.row here.0).zeros f.slack f.row here.0) in
+            let z : coefficient_at f.row (columns + j) ≡ pos 0 = subst P (sym (same_from_test (columns + j) f.slack e)) ((end_table f.slack f.row here.0).zeros f.slack f.row here.0) in
             ap (λ k. f.row.d *ℤ combination (get_or rs j []) ws +ℤ k *ℤ combination (get_or rs j []) ws) z
             ∙ ring (f.row.d ∷ combination (get_or rs j []) ws ∷ []) (plus (times (var 0) (var 1)) (times (num (pos 0)) (var 1))) (times (var 0) (var 1)) refl
         each j h false e = size (coefficient_at f.row (columns + j)) (combination (get_or rs j []) ws) (at_most (columns + j) (omega arith) (omega arith))
 
         other : (j : ℕ) → (columns + j ≡ f.slack → ⊥) → (b : Bool) → (columns + j == f.slack) ≡ b → cond b (f.row.d *ℤ combination (get_or rs j []) ws) (pos 0) ≡ pos 0
-        other j n true e = absurd (n (same_true (columns + j) f.slack e))
+        other j n true e = absurd (n (same_from_test (columns + j) f.slack e))
         other j n false e = refl
 
         itself : (j : ℕ) → columns + j ≡ f.slack → (b : Bool) → (columns + j == f.slack) ≡ b → cond b (f.row.d *ℤ combination (get_or rs j []) ws) (pos 0) ≡ f.row.d *ℤ combination (get_or rs j []) ws
         itself j h true e = refl
-        itself j h false e = absurd (same_false (columns + j) f.slack e h)
+        itself j h false e = absurd (other_from_test (columns + j) f.slack e h)

@@ -19,6 +19,7 @@ use Rattle.strict_solver.proofs.Following.{Follows, AreLowest, pivot-lowest, loa
 use Rattle.strict_solver.proofs.GoingOn.{start-lowest, rows_short, GoesOn, end-length, end-table}
 use Rattle.strict_solver.proofs.Deciding.{last-get, wider-sum, end-extends, loads-least, loads-none}
 use Rattle.strict_solver.proofs.Unique.{cancel, same-tables}
+use Rattle.strict_solver.proofs.Entries.{both_some}
 
 pub row-get : (s : List (Option Line)) (l : Line) (z : ℕ) → z ≢ length s → get_or (with_row s l) z None ≡ wider_line (get_or s z None)
 row-get [] l zero n = absurd (n refl)
@@ -33,9 +34,6 @@ row-last (o ∷ s) l = row-last s l
 pub row-length : (s : List (Option Line)) (l : Line) → length (with_row s l) ≡ suc (length s)
 row-length [] l = refl
 row-length (o ∷ s) l = ap suc (row-length s l)
-
-both_some : (o : Option Line) (q r : Line) → o ≡ Some q → o ≡ Some r → q ≡ r
-both_some o q r e f = cc
 
 from_wider : (o : Option Line) (r : Line) → wider_line o ≡ Some r → (q : Line) × (o ≡ Some q) × (r ≡ wider q)
 from_wider None r e = cc

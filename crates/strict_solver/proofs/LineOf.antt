@@ -9,12 +9,13 @@ use Rattle.strict_solver.specs.Equations.{combination, Holds}
 use Rattle.strict_solver.specs.Continuing.{IsLowest, IsLineFor}
 use Rattle.strict_solver.proofs.Forms.{combination-scaled, combination-set, combination-zip, length_mapped, reduced_parts, pos_some}
 use Rattle.strict_solver.proofs.Pivots.{IsTable, in_table, coefficient-put_in, length-zipped}
-use Rattle.strict_solver.proofs.Values.{product_positive}
 use Rattle.strict_solver.proofs.Reduced.{reduced, reduced-is}
 use Rattle.strict_solver.proofs.Runs.{after_row}
 use Rattle.strict_solver.proofs.Wider.{reduced-clear}
 use Rattle.strict_solver.proofs.Deciding.{combination-padded}
 use Rattle.strict_solver.proofs.Unique.{cancel}
+use Rattle.strict_solver.proofs.Entries.{not_both}
+use Rattle.ntfe_nums.proofs.Signs.{positive_product}
 
 -- the same with the heights below k put in
 record IsLineUpTo (columns : ℕ) (q : List ℤ) (s : List (Option Line)) (k : ℕ) (l : Line) : Type 0 where
@@ -22,13 +23,6 @@ record IsLineUpTo (columns : ℕ) (q : List ℤ) (s : List (Option Line)) (k : �
   positive : pos 0 <ℤ l.d
   zeros : (b : ℕ) (r : Line) → get_or s b None ≡ Some r → (b < k) ⊎ (columns ≤ b) → coefficient_at l b ≡ pos 0
   value : (one : ℤ) (vs : List ℤ) → length vs ≡ length s → Holds one vs s → l.d *ℤ (combination q vs -ℤ one) ≡ l.c *ℤ one +ℤ combination l.coefficients vs
-
-basic_or_not : (o : Option Line) → ((r : Line) × (o ≡ Some r)) ⊎ (o ≡ None)
-basic_or_not None = inr refl
-basic_or_not (Some r) = inl (r, refl)
-
-not_both : (o : Option Line) (r : Line) → o ≡ Some r → o ≡ None → ⊥
-not_both o r e f = cc
 
 module _ (columns : ℕ) (q : List ℤ) (s : List (Option Line)) (w : IsTable s) (cq : length q ≡ columns) (cs : columns ≤ length s) where
   line-first : IsLineUpTo columns q s 0 (record { d = pos 1; c = negsuc 0; coefficients = q ++ replicate (length s - columns) (pos 0) })
@@ -60,7 +54,7 @@ module _ (columns : ℕ) (q : List ℤ) (s : List (Option Line)) (w : IsTable s)
     puts : (m : Line) → get_or s k None ≡ Some m → IsLineUpTo columns q s (suc k) (with_put_in l k m)
     puts m em = record {
       count = length-zipped (λ e. e.0 *ℤ m.d +ℤ coefficient_at l k *ℤ e.1) (length s) (set l.coefficients k (pos 0)) m.coefficients (length-set l.coefficients k (pos 0) ∙ u.count) (w k m em).count;
-      positive = product_positive l.d m.d u.positive (w k m em).positive;
+      positive = positive_product l.d m.d u.positive (w k m em).positive;
       zeros = zero;
       value = value;
     }

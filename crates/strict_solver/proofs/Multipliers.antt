@@ -1,14 +1,8 @@
 -- The multipliers of a row, one after the other.
-use Rattle.std.proofs.Common.{◌≡◌, ℕ, zero, suc, ◌+◌, Bool, true, false, cond, refl, sym, ap, ◌∙◌, arith, ℤ, pos, int_lt, List, [], ◌∷◌, ◌++◌, map, filter}
+use Rattle.std.proofs.Common.{◌≡◌, ℕ, ◌+◌, Bool, true, false, cond, refl, sym, ap, ◌∙◌, arith, ℤ, pos, int_lt, List, [], ◌∷◌, ◌++◌, map, filter}
 use Rattle.std.specs.List.{range_with_len}
 use Rattle.ntfe_model.specs.Solver.{Line, multiplier_at, multipliers_of}
-
-range_push : (a n : ℕ) → range_with_len a (n + 1) ≡ range_with_len a n ++ (a + n) ∷ []
-range_push a n = ap (range_with_len a) (let e : n + 1 ≡ suc n = omega arith in e) ∙ at a n
-  where
-    at : (a n : ℕ) → range_with_len a (suc n) ≡ range_with_len a n ++ (a + n) ∷ []
-    at a zero = ap (λ k. k ∷ []) (let e : a ≡ a + 0 = omega arith in e)
-    at a (suc n) = ap (λ l. a ∷ l) (at (a + 1) n ∙ ap (λ k. range_with_len (a + 1) n ++ k ∷ []) (let e : a + 1 + n ≡ a + suc n = omega arith in e))
+use Rattle.ntfe_model.proofs.Lists.{range_more}
 
 filter_push : (f : ℕ → ℕ × ℤ) (ks : List ℕ) (k : ℕ)
     → filter (λ e. int_lt (pos 0) e.1) (map f (ks ++ k ∷ [])) ≡ filter (λ e. int_lt (pos 0) e.1) (map f ks) ++ cond (int_lt (pos 0) (f k).1) (f k ∷ []) []
@@ -25,7 +19,7 @@ more : (columns rows x : ℕ) (r : Line) → multipliers_of columns (rows + 1) x
     ≡ multipliers_of columns rows x r ++ cond (int_lt (pos 0) (multiplier_at columns x r rows)) ((rows, multiplier_at columns x r rows) ∷ []) []
 more columns rows x r =
     let f : ℕ → ℕ × ℤ = λ j. (j, multiplier_at columns x r j) in
-    ap (λ ks. filter (λ e. int_lt (pos 0) e.1) (map f ks)) (range_push 0 rows)
+    ap (λ ks. filter (λ e. int_lt (pos 0) e.1) (map f ks)) (range_more 0 rows)
     ∙ filter_push f (range_with_len 0 rows) (0 + rows)
     ∙ ap (λ k. multipliers_of columns rows x r ++ cond (int_lt (pos 0) (f k).1) (f k ∷ []) []) (let e : 0 + rows ≡ rows = omega arith in e)
 

@@ -24,7 +24,7 @@ distributes g a b = omega arith
 distributes_right : (a b c : ℕ) → (a + b) * c ≡ a * c + b * c
 distributes_right a b c = omega arith
 
-cancels : (k x y : ℕ) → 0 < k → k * x ≡ k * y → x ≡ y
+pub cancels : (k x y : ℕ) → 0 < k → k * x ≡ k * y → x ≡ y
 cancels k x y h e = grind arith
 
 flipped : (k n : ℕ) → Lowest k n → Lowest n k

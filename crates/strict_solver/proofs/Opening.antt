@@ -1,5 +1,5 @@
 -- The grid of the start stands for the start's table.
-use Rattle.std.proofs.Common.{◌≡◌, ℕ, zero, suc, ◌+◌, ◌-◌, ◌*◌, ◌<◌, ◌≤◌, ◌⊎◌, inl, inr, refl, sym, ap, ◌∙◌, subst, arith, ℤ, pos, ◌<ℤ◌, List, [], ◌++◌, map, length, get_or, replicate, mul-le-mul, unsigned_abs, Option, Some, None}
+use Rattle.std.proofs.Common.{◌≡◌, ℕ, suc, ◌+◌, ◌-◌, ◌*◌, ◌<◌, ◌≤◌, ◌⊎◌, inl, inr, refl, sym, ap, ◌∙◌, subst, arith, ℤ, pos, ◌<ℤ◌, List, [], ◌++◌, map, length, get_or, replicate, mul-le-mul, unsigned_abs, Option, Some, None}
 use Rattle.std.specs.Prelude.{slice_get}
 use Rattle.std.specs.Int.{◌∣◌}
 use Rattle.std.specs.List.{range_with_len}
@@ -23,24 +23,14 @@ use Rattle.strict_solver.proofs.PlacingAll.{start_placing, which}
 use Rattle.strict_solver.proofs.Tables.{get_line, table_wide, line_narrow}
 use Rattle.strict_solver.proofs.Runs.{start_lines, start-get, start-at, start-length, after_row}
 use Rattle.strict_solver.proofs.Running.{grid_narrow}
+use Rattle.ntfe_model.proofs.Lists.{range_length, range_get}
+use Rattle.strict_solver.proofs.Starting.{fold_row-length}
 
 -- what the writing of the rows keeps
 pub record IsOpening (width : ℕ) (old now : Grid) (fs : List Fold) (r : ℕ) : Type 0 where
   pub room : HasSameRoom old now
   pub places : IsStartPlacing old.columns (length fs) now.places.items
   pub done : (q : ℕ) (f : Fold) → q < r → slice_get fs q ≡ Some f → IsStartRow old.columns f (row_at (old.columns + 2) now.cells.items q) × AreNarrow width (row_at (old.columns + 2) now.cells.items q)
-
-range_length : (a n : ℕ) → length (range_with_len a n) ≡ n
-range_length a zero = refl
-range_length a (suc n) = ap suc (range_length (a + 1) n)
-
-range_get : (a n k : ℕ) → k < n → get_or (range_with_len a n) k 0 ≡ a + k
-range_get a zero k h = absurd (omega arith)
-range_get a (suc n) zero h = omega arith
-range_get a (suc n) (suc k) h = range_get (a + 1) n k (omega arith) ∙ (let e : a + 1 + k ≡ a + suc k = omega arith in e)
-
-fold_row-length : (n : ℕ) (f : Fold) → length (fold_row n f) ≡ n
-fold_row-length n f = length-map (range_with_len 1 n) (fold_coefficient f) ∙ range_length 1 n
 
 module _ (n m : ℕ) (ps : List Place) (h : IsStartPlacing n m ps) where
   -- the line of a row of the start

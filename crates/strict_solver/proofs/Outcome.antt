@@ -1,9 +1,7 @@
 -- The answer at the end of a run.
-use Rattle.std.proofs.Common.{◌≡◌, ℕ, zero, suc, ◌+◌, ◌-◌, ◌^◌, ◌<◌, ◌≤◌, min, refl, sym, ap, ◌∙◌, subst, arith, ℤ, pos, List, [], ◌∷◌, map, length, get_or, unsigned_abs, Option, Some, None}
+use Rattle.std.proofs.Common.{◌≡◌, ℕ, zero, suc, ◌+◌, ◌-◌, ◌^◌, ◌<◌, ◌≤◌, min, sym, ap, ◌∙◌, subst, arith, ℤ, pos, List, [], ◌∷◌, map, length, get_or, unsigned_abs, Option, Some, None}
 use Rattle.std.specs.Prelude.{MatchOption}
-use Rattle.std.specs.List.{range_with_len}
 use Rattle.std.proofs.lemmas.List.{length-map, get_or-map}
-use Rattle.ntfe_model.specs.Certificates.{fold_coefficient}
 use Rattle.ntfe_model.specs.declared.nogood.Fold.{Fold}
 use Rattle.ntfe_model.specs.Solver.{Line, Table, fold_row, start_table, first_wide, multipliers_of, scaling_numbers, IsFeasible, IsInfeasible, IsWideScaling}
 use Rattle.strict_solver.specs.Runs.{IsLoadedAt, IsSettled, HasLoaded}
@@ -15,19 +13,14 @@ use Rattle.strict_solver.proofs.Running.{shown_more}
 use Rattle.strict_solver.proofs.Scaling.{scaling_is, ranged_length, ranged_get}
 use Rattle.strict_solver.proofs.Tables.{first_wide-append, first_wide-front}
 use Rattle.strict_solver.proofs.Wide.{all_narrow}
+use Rattle.strict_solver.proofs.Starting.{fold_row-length}
 
 -- ---- the rows of folds
-range_length : (a n : ℕ) → length (range_with_len a n) ≡ n
-range_length a zero = refl
-range_length a (suc n) = ap suc (range_length (a + 1) n)
-
-fold_length : (n : ℕ) (f : Fold) → length (fold_row n f) ≡ n
-fold_length n f = length-map (range_with_len 1 n) (fold_coefficient f) ∙ range_length 1 n
 
 pub are_rows : (n : ℕ) (fs : List Fold) → AreRows n (map (fold_row n) fs)
 are_rows n [] zero l = absurd (omega arith)
 are_rows n [] (suc j) l = absurd (omega arith)
-are_rows n (f ∷ fs) zero l = fold_length n f
+are_rows n (f ∷ fs) zero l = fold_row-length n f
 are_rows n (f ∷ fs) (suc j) l = are_rows n fs j (omega arith)
 
 pub loaded_has : (columns width : ℕ) (rs : List (List ℤ)) (step : ℕ) (s : List (Option Line)) → AreRows columns rs → IsLoadedAt columns width rs step s → HasLoaded columns s

@@ -16,7 +16,7 @@ use Rattle.strict_solver.proofs.Runs.{start-length}
 use Rattle.strict_solver.proofs.GoingOn.{run-append}
 
 -- ---- no rows
-find-none : (test : ℕ → Bool) (a n : ℕ) → ((j : ℕ) → a ≤ j → j < a + n → test j ≡ false) → find test (range_with_len a n) ≡ None
+pub find-none : (test : ℕ → Bool) (a n : ℕ) → ((j : ℕ) → a ≤ j → j < a + n → test j ≡ false) → find test (range_with_len a n) ≡ None
 find-none test a zero h = refl
 find-none test a (suc n) h = ap (λ b. cond b (Some a) (find test (range_with_len (a + 1) n))) (h a (omega arith) (omega arith)) ∙ find-none test (a + 1) n (λ j c l. h j (omega arith) (omega arith))
 

@@ -20,7 +20,7 @@ use Rattle.strict_solver.proofs.Elimination.{from_place}
 use Rattle.strict_solver.proofs.Placing.{not_same, at_leaving, at_entering, at_others, somewhere, placing_after, coefficient_there}
 use Rattle.strict_solver.proofs.Pivots.{coefficient-put_in, length-zipped}
 use Rattle.strict_solver.proofs.Steps.{sign_positive}
-use Rattle.strict_solver.proofs.Values.{product_positive}
+use Rattle.ntfe_nums.proofs.Signs.{positive_product}
 
 pub some_place : {X : Type 0} (xs : List X) (i : ℕ) → i < length xs → (x : X) × (slice_get xs i ≡ Some x)
 some_place [] i h = absurd (omega arith)
@@ -262,7 +262,7 @@ module _ (columns : ℕ) (places : List Place) (h : IsPlacing columns places) (x
         ∙ c.same 0
 
     pub combined_positive : pos 0 <ℤ number new 0
-    combined_positive = at (number new 0) (subst (λ z. pos 0 <ℤ z) first_is (product_positive (number q 0) (number m 0) qd md))
+    combined_positive = at (number new 0) (subst (λ z. pos 0 <ℤ z) first_is (positive_product (number q 0) (number m 0) qd md))
       where
         at : (z : ℤ) → pos 0 <ℤ (pos c.k *ℤ z) → pos 0 <ℤ z
         at (pos zero) g = absurd (let e = product_zero (pos c.k) in omega (arith, ints))

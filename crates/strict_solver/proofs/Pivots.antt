@@ -13,6 +13,7 @@ use Rattle.ntfe_nums.proofs.Ring.{product_zero, zero_product}
 use Rattle.strict_solver.specs.Equations.{LineHolds, Holds}
 use Rattle.strict_solver.proofs.Moves.{IsGone}
 use Rattle.strict_solver.proofs.Forms.{length_mapped, zero_factor, reduced_parts, solved_for-holds, reduced-holds, with_put_in-holds, pos_some}
+use Rattle.strict_solver.proofs.Entries.{both_some}
 
 pub record IsLineOf (s : List (Option Line)) (r : Line) : Type 0 where
   pub count : length r.coefficients ≡ length s
@@ -36,13 +37,6 @@ pub get_there : (s : List (Option Line)) (z : ℕ) (r : Line) → get_or s z Non
 get_there [] z r e = cc
 get_there (p ∷ s) zero r e = ap Some e
 get_there (p ∷ s) (suc z) r e = get_there s z r e
-
-abbrev line_or : Line → Option Line → Line
-line_or r None = r
-line_or r (Some q) = q
-
-same_line : (o : Option Line) (q r : Line) → o ≡ Some q → o ≡ Some r → q ≡ r
-same_line o q r e f = ap (line_or q) (sym e ∙ f)
 
 -- a coefficient of the row that is put in
 pub coefficient-put_in : (q m : Line) (y b : ℕ) → b < length q.coefficients → b < length m.coefficients
@@ -206,9 +200,9 @@ module _ (x y : ℕ) (s t : List (Option Line)) (p : IsPivot x y s t) where
       where
         by : IsNextLine x y p.new z (get_or s z None) (get_or t z None) → IsLineOf t r
         by (inl h) = let g = h.1 in cc
-        by (inr (inl h)) = let P : Line → Type 0 = λ k. IsLineOf t k in subst P (same_line _ p.new r h.1 e) new-line
+        by (inr (inl h)) = let P : Line → Type 0 = λ k. IsLineOf t k in subst P (both_some _ p.new r h.1 e) new-line
         by (inr (inr (inl h))) = let g = h.3 in cc
-        by (inr (inr (inr h))) = let P : Line → Type 0 = λ k. IsLineOf t k in subst P (same_line _ h.1 r h.5 e) (other-line h.0 h.1 (w z h.0 h.4) h.6)
+        by (inr (inr (inr h))) = let P : Line → Type 0 = λ k. IsLineOf t k in subst P (both_some _ h.1 r h.5 e) (other-line h.0 h.1 (w z h.0 h.4) h.6)
 
     -- a height that no slack has, and that is not basic, stays so
     pub pivot-gone : (columns k : ℕ) → k < columns → columns ≤ x → k ≢ y → k < length s → IsGone columns s k → IsGone columns t k
@@ -235,9 +229,9 @@ module _ (x y : ℕ) (s t : List (Option Line)) (p : IsPivot x y s t) where
 
         by : IsNextLine x y p.new z (get_or s z None) (get_or t z None) → coefficient_at r k ≡ pos 0
         by (inl h) = let f = h.1 in cc
-        by (inr (inl h)) = ap (λ q. coefficient_at q k) (sym (same_line _ p.new r h.1 e)) ∙ new-gone
+        by (inr (inl h)) = ap (λ q. coefficient_at q k) (sym (both_some _ p.new r h.1 e)) ∙ new-gone
         by (inr (inr (inl h))) = let f = h.3 in cc
-        by (inr (inr (inr h))) = ap (λ q. coefficient_at q k) (sym (same_line _ h.1 r h.5 e)) ∙ other-gone h.0 h.1 h.4 h.6
+        by (inr (inr (inr h))) = ap (λ q. coefficient_at q k) (sym (both_some _ h.1 r h.5 e)) ∙ other-gone h.0 h.1 h.4 h.6
 
     module _ (one : ℤ) (vs : List ℤ) (l : length vs ≡ length s) where
       in_values : (k : ℕ) → k < length s → k < length vs
@@ -269,9 +263,9 @@ module _ (x y : ℕ) (s t : List (Option Line)) (p : IsPivot x y s t) where
           by (inr (inl h)) =
               let P : Line → Type 0 = λ k. LineHolds one vs z k in
               let Q : ℕ → Type 0 = λ k. LineHolds one vs k p.new in
-              subst P (same_line _ p.new r h.1 e) (subst Q (sym h.0) n)
+              subst P (both_some _ p.new r h.1 e) (subst Q (sym h.0) n)
           by (inr (inr (inl h))) = let g = h.3 in cc
-          by (inr (inr (inr h))) = let P : Line → Type 0 = λ k. LineHolds one vs z k in subst P (same_line _ h.1 r h.5 e) ((other-holds z h.0 h.1 h.4 h.6 n).0 (all z h.0 h.4))
+          by (inr (inr (inr h))) = let P : Line → Type 0 = λ k. LineHolds one vs z k in subst P (both_some _ h.1 r h.5 e) ((other-holds z h.0 h.1 h.4 h.6 n).0 (all z h.0 h.4))
 
       -- where the rows after hold, those before do
       pub pivot-held : Holds one vs t → Holds one vs s
@@ -285,10 +279,10 @@ module _ (x y : ℕ) (s t : List (Option Line)) (p : IsPivot x y s t) where
               let P : Line → Type 0 = λ k. LineHolds one vs z k in
               let Q : ℕ → Type 0 = λ k. LineHolds one vs k p.row in
               let R : ℕ → Type 0 = λ k. get_or s k None ≡ Some q in
-              subst P (same_line _ p.row q pivot-leaving.0 (subst R h.0 e)) (subst Q (sym h.0) (row-holds.1 n))
+              subst P (both_some _ p.row q pivot-leaving.0 (subst R h.0 e)) (subst Q (sym h.0) (row-holds.1 n))
           by (inr (inl h)) = let R : ℕ → Type 0 = λ k. get_or s k None ≡ Some q in let a = subst R h.0 e in let b = pivot-entering.0 in cc
           by (inr (inr (inl h))) = let g = h.2 in cc
-          by (inr (inr (inr h))) = let P : Line → Type 0 = λ k. LineHolds one vs z k in subst P (same_line _ h.0 q h.4 e) ((other-holds z h.0 h.1 h.4 h.6 n).1 (all z h.1 h.5))
+          by (inr (inr (inr h))) = let P : Line → Type 0 = λ k. LineHolds one vs z k in subst P (both_some _ h.0 q h.4 e) ((other-holds z h.0 h.1 h.4 h.6 n).1 (all z h.1 h.5))
 
 -- ---- runs
 pub run-length : (columns : ℕ) (s : Table) (ts : List Table) (t : Table) → IsRun columns s ts t → length t.lines ≡ length s.lines

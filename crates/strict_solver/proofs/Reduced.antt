@@ -13,6 +13,7 @@ use Rattle.std.proofs.Math.Nat.{pos_of_dvd_of_pos, mul-dvd-mul_left, dvd_of_mul-
 use Rattle.ntfe_model.specs.Solver.{Line, line_numbers, IsReduced}
 use Rattle.strict_solver.specs.Scales.{gcd_by}
 use Rattle.strict_solver.proofs.Rows.{exact_quotient}
+use Rattle.ntfe_nums.proofs.Signs.{some_size}
 
 pub gcd_by-is : (f a b : ℕ) → b ≤ f → IsGcd a b (gcd_by f a b)
 gcd_by-is zero a b h = IsGcd-from_zero a b (omega arith)
@@ -55,9 +56,6 @@ quotient_positive g (pos n) p h l = at (n / g) (exact_quotient (pos g) (pos n) (
     at zero e = absurd (let a : g * 0 ≡ n = ap unsigned_abs e in omega (arith, ints))
     at (suc q) e = omega (arith, ints)
 quotient_positive g (negsuc n) p h l = absurd (omega (arith, ints))
-
-some_size : (z : ℤ) → pos 0 <ℤ z → 0 < unsigned_abs z
-some_size z h = omega (arith, ints)
 
 pub reduced-is : (raw : Line) → pos 0 <ℤ raw.d → IsReduced raw (reduced raw)
 reduced-is raw h =

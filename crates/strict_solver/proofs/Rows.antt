@@ -23,9 +23,6 @@ unwrap128 z h = back w128 z (2 ^ 126) (omega arith) (omega arith)
 pub zero_word : (z : ℤ) → unsigned_abs z < 2 ^ 62 → of_z w64 z ≡ 0 → z ≡ pos 0
 zero_word z h e = sym (unwrap64 z h) ∙ ap (to_z w64) e
 
-pub word_zero : (z : ℤ) → z ≡ pos 0 → of_z w64 z ≡ 0
-word_zero z e = ap (of_z w64) e
-
 pub number_past : (row : List ℤ) (k : ℕ) → length row ≤ k → number row k ≡ pos 0
 number_past row k h = get_or_past row k (pos 0) h
 

@@ -22,6 +22,7 @@ use Rattle.strict_solver.proofs.Agree.{pivot_same}
 use Rattle.strict_solver.proofs.Steps.{step_lines, step-is, move-pivotable, moves_left, moves_left-falls}
 use Rattle.strict_solver.proofs.Tables.{get_line, line_narrow, table_narrow}
 use Rattle.std.proofs.lemmas.List.{get_or_past}
+use Rattle.strict_solver.proofs.Entries.{slice_none}
 
 -- ---- the table of a grid
 pub grid_table : (width : ℕ) (g : Grid) → IsGrid width g → IsTable (lines_of g)
@@ -159,11 +160,6 @@ load_end columns width rs step height s l h = record {
 
 pub load_start : (columns width : ℕ) (rs : List (List ℤ)) (s : List (Option Line)) → Stands columns width rs (range_with_len 0 columns) 0 s → IsLoadingFrom columns width rs 0 0 s
 load_start columns width rs s h = record { to_load = range_with_len 0 columns; steps = 0; stands = h; shown = refl; next = ap (λ n. next_load columns s (range_with_len 0 n)) (let e : columns ≡ columns - 0 = omega arith in e) }
-
-slice_none : (s : List (Option Line)) (z : ℕ) → z < length s → get_or s z None ≡ None → slice_get s z ≡ Some None
-slice_none [] z h e = absurd (omega arith)
-slice_none (o ∷ s) zero h e = ap Some e
-slice_none (o ∷ s) (suc z) h e = slice_none s z (omega arith) e
 
 -- a height that a slack has is not basic, so that it can be loaded
 pub load-pivotable : (columns x height : ℕ) (s : List (Option Line)) → IsTable s → height < length s → Some x ≡ first_slack columns (λ r. not (int_eq (coefficient_at r height) (pos 0))) s → IsPivotable x height s

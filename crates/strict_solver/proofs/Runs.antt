@@ -9,16 +9,13 @@ use Rattle.ntfe_model.specs.Solver.{Line, Table, Move, start_line, start_table, 
 use Rattle.strict_solver.proofs.Pivots.{IsLineOf, IsTable, pivot-table, pivot-gone, pivot-kept, pivot-new}
 use Rattle.strict_solver.proofs.Moves.{IsGone, IsIn, IsLoad, next_load-found, no_next_load, move_of-pivot, moving-pivot, first_slack-found}
 use Rattle.strict_solver.proofs.Bland.{IsMovingStep, IsMoving, IsLoaded, IsBasic, no_return}
+use Rattle.strict_solver.proofs.Entries.{basic_or_not, not_both, line_or}
 
 abbrev pub AreRows : ℕ → List (List ℤ) → Type 0
 AreRows columns rs = (j : ℕ) → j < length rs → length (get_or rs j []) ≡ columns
 
 abbrev pub start_lines : ℕ → ℕ → List (List ℤ) → List (Option Line)
 start_lines columns n rs = replicate columns None ++ map (λ r. Some (start_line n r)) rs
-
-abbrev line_or : Line → Option Line → Line
-line_or r None = r
-line_or r (Some q) = q
 
 pub start-get : (columns n : ℕ) (rs : List (List ℤ)) (z : ℕ) (r : Line) → get_or (start_lines columns n rs) z None ≡ Some r → (j : ℕ) × (z ≡ columns + j) × (j < length rs) × (r ≡ start_line n (get_or rs j []))
 start-get zero n [] z r e = cc
@@ -80,13 +77,6 @@ in_range a (suc n) k h i = by (let c : (k ≡ a) ⊎ (a + 1 ≤ k) = grind arith
 
 pub start-loading : (columns : ℕ) (rs : List (List ℤ)) → IsLoading columns (start_table columns rs)
 start-loading columns rs k h e = inl (in_range 0 columns k (omega arith) (omega arith))
-
-basic_or_not : (o : Option Line) → ((r : Line) × (o ≡ Some r)) ⊎ (o ≡ None)
-basic_or_not None = inr refl
-basic_or_not (Some r) = inl (r, refl)
-
-not_both : (o : Option Line) (r : Line) → o ≡ Some r → o ≡ None → ⊥
-not_both o r e f = cc
 
 pub step-loading : (columns : ℕ) (s t : Table) → IsStepOf columns s t → IsTable s.lines → columns ≤ length s.lines → IsLoading columns s → IsLoading columns t
 step-loading columns s t m w c l k h e = by (move_of-pivot columns s m.0 m.1 t.to_load m.2)

@@ -2,17 +2,18 @@
 use Rattle.std.proofs.Common.{◌≡◌, ◌≢◌, ℕ, zero, suc, ◌+◌, ◌-◌, ◌<◌, ◌≤◌, ◌==◌, ◌⊎◌, inl, inr, Bool, true, false, cond, refl, sym, ap, ◌∙◌, subst, arith, ℤ, pos, ◌*ℤ◌, ◌<ℤ◌, int_lt, unsigned_abs, List, [], ◌∷◌, map, filter, length, get_or, Some, None, Option}
 use Rattle.std.specs.Prelude.{All}
 use Rattle.std.specs.List.{range_with_len}
-use Rattle.std.proofs.lemmas.Int.{ints}
 use Rattle.std.proofs.lemmas.Bool.Decides.{nat_tests}
 use Rattle.std.proofs.lemmas.List.{get_or_default, same_lists}
 use Rattle.ntfe_model.specs.Solver.{Line, Table, start_table, last_scale, coefficient_at, multiplier_at, IsScale, IsScaled, IsScaling, IsFeasible, IsInfeasible}
 use Rattle.ntfe_nums.proofs.Ring.{ring}
 use Rattle.ntfe_nums.proofs.Ring.Expression.{var, minus, times}
-use Rattle.strict_solver.proofs.Forms.{back, positive_some}
+use Rattle.strict_solver.proofs.Forms.{back}
 use Rattle.strict_solver.proofs.Pivots.{IsTable, get_here, run-table, run-length}
-use Rattle.strict_solver.proofs.Moves.{first_slack-found, move_of-infeasible, moving-infeasible, int_lt-positive, int_lt-not_positive}
+use Rattle.strict_solver.proofs.Moves.{first_slack-found, move_of-infeasible, moving-infeasible, int_lt-positive}
 use Rattle.strict_solver.proofs.Runs.{AreRows, start-is_table, start-length}
 use Rattle.strict_solver.proofs.Agree.{runs_agree, feasible-end}
+use Rattle.ntfe_nums.proofs.Signs.{positive_some}
+use Rattle.strict_solver.proofs.Searches.{above_passes}
 
 scale_same : (s : List (Option Line)) (m n : ℕ) → IsScale s m → IsScale s n → m ≡ n
 scale_same s m n h i = let a = h.least n i.positive i.whole in let b = i.least m h.positive h.whole in omega arith
@@ -74,13 +75,6 @@ kept m a (suc n) x h i e = by (let c : (a ≡ x) ⊎ (a + 1 ≤ x) = grind arith
     by (inl c) false f rest = let g : int_lt (pos 0) (m a) ≡ true = ap (λ k. int_lt (pos 0) (m k)) c ∙ e in cc
     by (inr c) false f rest = rest c (omega arith) e
 
-positive_passes : (z : ℤ) → pos 0 <ℤ z → int_lt (pos 0) z ≡ true
-positive_passes z h = by (int_lt (pos 0) z) refl
-  where
-    by : (b : Bool) → int_lt (pos 0) z ≡ b → b ≡ true
-    by true e = refl
-    by false e = let g = int_lt-not_positive z e in absurd (omega (arith, ints))
-
 -- each multiplier is positive and names a row
 pub infeasible-positive : (columns : ℕ) (rs : List (List ℤ)) (width : Option ℕ) (ms : List (ℕ × ℤ)) → IsInfeasible columns rs width ms → All (λ (e : ℕ × ℤ). (e.0 < length rs) × (pos 0 <ℤ e.1)) ms
 infeasible-positive columns rs width ms f =
@@ -101,7 +95,7 @@ infeasible-some columns rs width ms w f =
     let P : List (ℕ × ℤ) → Type 0 = λ es. 0 < length es in
     subst P (sym f.multipliers_are)
     (kept (multiplier_at columns f.slack f.row) 0 (length rs) x (omega arith) (omega arith)
-    (positive_passes (multiplier_at columns f.slack f.row x) (own x xs (t f.slack f.row here.0).positive (columns + x == f.slack) refl)))
+    (above_passes (multiplier_at columns f.slack f.row x) (own x xs (t f.slack f.row here.0).positive (columns + x == f.slack) refl)))
   where
     own : (x : ℕ) → columns + x ≡ f.slack → pos 0 <ℤ f.row.d → (b : Bool) → (columns + x == f.slack) ≡ b → pos 0 <ℤ cond b f.row.d (pos (unsigned_abs (coefficient_at f.row (columns + x))))
     own x e p true g = p

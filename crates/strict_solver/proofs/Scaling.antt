@@ -3,7 +3,7 @@ use Rattle.std.proofs.Common.{◌≡◌, ℕ, zero, suc, ◌+◌, ◌*◌, ◌^�
 use Rattle.std.specs.Prelude.{slice_get}
 use Rattle.std.specs.Int.{◌∣◌}
 use Rattle.std.specs.List.{range_with_len}
-use Rattle.std.proofs.lemmas.Int.{ints, unsigned_abs-mul}
+use Rattle.std.proofs.lemmas.Int.{unsigned_abs-mul}
 use Rattle.std.proofs.lemmas.Bool.Decides.{nat_tests}
 use Rattle.std.proofs.lemmas.List.{length-map, get_or-map}
 use Rattle.std.proofs.lemmas.Nat.Gcd.{dvd_trans, le_of_dvd}
@@ -14,6 +14,8 @@ use Rattle.strict_solver.proofs.Rows.{exact_quotient}
 use Rattle.strict_solver.proofs.Pivots.{IsTable}
 use Rattle.strict_solver.proofs.Wide.{wide_first, narrow_first}
 use Rattle.strict_solver.proofs.Denominators.{reduced_positive, whole_when, whole_only, multiple_first, multiple_second, multiple_least, multiple_positive}
+use Rattle.ntfe_model.proofs.Lists.{range_length, range_get}
+use Rattle.ntfe_nums.proofs.Signs.{some_size}
 
 pub scale_start : (ls : List (Option Line)) → scale_to ls 0 ≡ 1
 unfolding scale_to
@@ -31,9 +33,6 @@ pub record IsLeastScale (ls : List (Option Line)) (k m : ℕ) : Type 0 where
   pub positive : 0 < m
   pub whole : (i : ℕ) (r : Line) → i < k → get_or ls i None ≡ Some r → unsigned_abs r.d ∣ m * unsigned_abs r.c
   pub least : (j : ℕ) → ((i : ℕ) (r : Line) → i < k → get_or ls i None ≡ Some r → unsigned_abs r.d ∣ j * unsigned_abs r.c) → m ∣ j
-
-size_some : (z : ℤ) → pos 0 <ℤ z → 0 < unsigned_abs z
-size_some z h = omega (arith, ints)
 
 one_divides : (n : ℕ) → 1 ∣ n
 one_divides n = subst (λ z. 1 ∣ z) (let f : 1 * n ≡ n = omega arith in f) (dvd-mul_right 1 n)
@@ -63,7 +62,7 @@ least_scale ls w (suc k) =
     by (Some t) e h =
         let d = unsigned_abs t.d in
         let c = unsigned_abs t.c in
-        let pd = size_some t.d (w k t e).positive in
+        let pd = some_size t.d (w k t e).positive in
         let n = reduced_denominator d c in
         let pn = reduced_positive d c pd in
         let m = scale_to ls k in
@@ -76,13 +75,13 @@ least_scale ls w (suc k) =
         at : (i : ℕ) (r : Line) → get_or ls i None ≡ Some r → (i < k) ⊎ (i ≡ k) → unsigned_abs r.d ∣ common_multiple (scale_to ls k) (reduced_denominator (unsigned_abs t.d) (unsigned_abs t.c)) * unsigned_abs r.c
         at i r f (inl l) =
             dvd_trans (unsigned_abs r.d) (h.whole i r l f)
-            (mul-dvd-mul_right (scale_to ls k) (multiple_first (scale_to ls k) (reduced_denominator (unsigned_abs t.d) (unsigned_abs t.c)) h.positive (reduced_positive (unsigned_abs t.d) (unsigned_abs t.c) (size_some t.d (w k t e).positive))) (unsigned_abs r.c))
+            (mul-dvd-mul_right (scale_to ls k) (multiple_first (scale_to ls k) (reduced_denominator (unsigned_abs t.d) (unsigned_abs t.c)) h.positive (reduced_positive (unsigned_abs t.d) (unsigned_abs t.c) (some_size t.d (w k t e).positive))) (unsigned_abs r.c))
         at i r f (inr q) =
             let P : ℕ → Type 0 = λ n. get_or ls n None ≡ Some r in
             let g : Some t ≡ Some r = sym e ∙ subst P q f in
             let u : t ≡ r = cc in
             let Q : Line → Type 0 = λ l. unsigned_abs l.d ∣ common_multiple (scale_to ls k) (reduced_denominator (unsigned_abs t.d) (unsigned_abs t.c)) * unsigned_abs l.c in
-            subst Q u (whole_when (unsigned_abs t.d) (unsigned_abs t.c) (size_some t.d (w k t e).positive) _ (multiple_second (scale_to ls k) (reduced_denominator (unsigned_abs t.d) (unsigned_abs t.c)) h.positive (reduced_positive (unsigned_abs t.d) (unsigned_abs t.c) (size_some t.d (w k t e).positive))))
+            subst Q u (whole_when (unsigned_abs t.d) (unsigned_abs t.c) (some_size t.d (w k t e).positive) _ (multiple_second (scale_to ls k) (reduced_denominator (unsigned_abs t.d) (unsigned_abs t.c)) h.positive (reduced_positive (unsigned_abs t.d) (unsigned_abs t.c) (some_size t.d (w k t e).positive))))
 
 -- ---- lists taken from the front
 taken_from : (ls : List (Option Line)) (n i : ℕ) (r : Line) → slice_get (take n ls) i ≡ Some (Some r) → (i < n) × (get_or ls i None ≡ Some r)
@@ -107,14 +106,6 @@ scale_is ls w k =
     }
 
 -- ---- ranges
-range_length : (a n : ℕ) → length (range_with_len a n) ≡ n
-range_length a zero = refl
-range_length a (suc n) = ap suc (range_length (a + 1) n)
-
-range_get : (a n k : ℕ) → k < n → get_or (range_with_len a n) k 0 ≡ a + k
-range_get a zero k h = absurd (omega arith)
-range_get a (suc n) zero h = omega arith
-range_get a (suc n) (suc k) h = range_get (a + 1) n k (omega arith) ∙ (let e : a + 1 + k ≡ a + suc k = omega arith in e)
 
 pub ranged_length : {X : Type 0} (f : ℕ → X) (n : ℕ) → length (map f (range_with_len 0 n)) ≡ n
 ranged_length f n = length-map (range_with_len 0 n) f ∙ range_length 0 n

@@ -1,11 +1,11 @@
 -- Searches of a grid's slacks.
-use Rattle.std.proofs.Common.{◌≡◌, ◌≢◌, ℕ, zero, suc, ◌+◌, ◌<◌, ◌≤◌, ◌⊎◌, inl, inr, Bool, true, false, cond, not, ◌&&◌, refl, ap, ◌∙◌, subst, arith, ℤ, pos, negsuc, ◌<ℤ◌, ◌≤ℤ◌, List, length, get_or, Option, Some, None}
+use Rattle.std.proofs.Common.{◌≡◌, ℕ, zero, suc, ◌+◌, ◌<◌, ◌≤◌, ◌⊎◌, inl, inr, Bool, true, false, cond, not, ◌&&◌, refl, ap, ◌∙◌, subst, arith, ℤ, pos, negsuc, ◌<ℤ◌, ◌≤ℤ◌, List, length, get_or, Option, Some, None}
 use Rattle.std.specs.Prelude.{find, nat_le, int_lt, is_none, slice_get}
 use Rattle.std.specs.Option.{option_map_or, option_and_then}
 use Rattle.std.specs.Ordering.{int_eq}
 use Rattle.std.specs.List.{range_with_len}
 use Rattle.std.proofs.lemmas.Int.{ints}
-use Rattle.std.proofs.lemmas.Bool.Decides.{nat_tests, Decides-int_eq}
+use Rattle.std.proofs.lemmas.Bool.Decides.{nat_tests}
 use Rattle.ntfe_model.specs.Solver.{Line, coefficient_at, first_slack, first_entering}
 use Rattle.strict_solver.specs.declared.place.Place.{Place}
 use Rattle.strict_solver.specs.declared.place.Place.TheVariants.{Row, Column}
@@ -14,6 +14,9 @@ use Rattle.strict_solver.specs.Grids.{row_at, lines_by}
 use Rattle.strict_solver.proofs.Placing.{line_there, coefficient_there}
 use Rattle.strict_solver.proofs.Pivoting.{some_place}
 use Rattle.strict_solver.proofs.Tables.{get_line}
+use Rattle.ntfe_nums.proofs.Comparisons.{zero_fails}
+use Rattle.strict_solver.proofs.Path.{find-none}
+use Rattle.strict_solver.proofs.Moves.{le_true}
 
 -- ---- a search of the numbers below n
 found_from : (test : ℕ → Bool) (a n x : ℕ) → test x ≡ true → ((j : ℕ) → a ≤ j → j < x → test j ≡ false) → a ≤ x → x < a + n → find test (range_with_len a n) ≡ Some x
@@ -25,16 +28,11 @@ found_from test a (suc n) x t h l m = by (let c : (a ≡ x) ⊎ (a + 1 ≤ x) = 
     by (inl e) rest = ap (λ b. cond b (Some a) (find test (range_with_len (a + 1) n))) (ap test e ∙ t) ∙ ap Some e
     by (inr i) rest = ap (λ b. cond b (Some a) (find test (range_with_len (a + 1) n))) (h a (omega arith) (omega arith)) ∙ rest (λ j k o. h j (omega arith) o) i (omega arith)
 
-none_from : (test : ℕ → Bool) (a n : ℕ) → ((j : ℕ) → a ≤ j → j < a + n → test j ≡ false) → find test (range_with_len a n) ≡ None
-none_from test a zero h = refl
-none_from test a (suc n) h =
-    ap (λ b. cond b (Some a) (find test (range_with_len (a + 1) n))) (h a (omega arith) (omega arith)) ∙ none_from test (a + 1) n (λ j k o. h j (omega arith) (omega arith))
-
 pub found_at : (test : ℕ → Bool) (n x : ℕ) → test x ≡ true → ((j : ℕ) → j < x → test j ≡ false) → x < n → find test (range_with_len 0 n) ≡ Some x
 found_at test n x t h l = found_from test 0 n x t (λ j k o. h j o) (omega arith) (omega arith)
 
 pub found_nowhere : (test : ℕ → Bool) (n : ℕ) → ((j : ℕ) → j < n → test j ≡ false) → find test (range_with_len 0 n) ≡ None
-found_nowhere test n h = none_from test 0 n (λ j k o. h j (omega arith))
+found_nowhere test n h = find-none test 0 n (λ j k o. h j (omega arith))
 
 pub below_next : (P : ℕ → Type 0) (x : ℕ) → ((j : ℕ) → j < x → P j) → P x → (j : ℕ) → j < x + 1 → P j
 below_next P x h here j l = by (let c : (j < x) ⊎ (x ≡ j) = grind arith in c)
@@ -49,9 +47,6 @@ slack_test columns test s x = nat_le columns x && option_map_or test (get_or s x
 
 pub slack_before : (columns : ℕ) (test : Line → Bool) (s : List (Option Line)) (x : ℕ) → x < columns → slack_test columns test s x ≡ false
 slack_before columns test s x h = ap (λ b. b && option_map_or test (get_or s x None) false) (let e : nat_le columns x ≡ false = grind (arith, nat_tests) in e)
-
-le_true : (m n : ℕ) → m ≤ n → nat_le m n ≡ true
-le_true m n h = grind (arith, nat_tests)
 
 pub slack_line : (columns : ℕ) (test : Line → Bool) (stride : ℕ) (places : List Place) (cells : List ℤ) (x r : ℕ) → columns ≤ x → slice_get places x ≡ Some (Row r)
     → slack_test columns test (lines_by stride places cells) x ≡ test (line_in places (row_at stride cells r))
@@ -76,15 +71,6 @@ pub first_slack_none : (columns : ℕ) (test : Line → Bool) (s : List (Option 
 first_slack_none columns test s h = found_nowhere (slack_test columns test s) (length s) h
 
 -- ---- tests of numbers
-pub zero_fails : (z : ℤ) → z ≡ pos 0 → not (int_eq z (pos 0)) ≡ false
-zero_fails z e = ap not ((Decides-int_eq z (pos 0)).1 e)
-
-pub other_passes : (z : ℤ) → z ≢ pos 0 → not (int_eq z (pos 0)) ≡ true
-other_passes z n = by (int_eq z (pos 0)) (Decides-int_eq z (pos 0))
-  where
-    by : (b : Bool) → (b ≡ true → z ≡ pos 0) × (z ≡ pos 0 → b ≡ true) → not b ≡ true
-    by true d = absurd (n (d.0 refl))
-    by false d = refl
 
 pub below_passes : (z : ℤ) → z <ℤ pos 0 → int_lt z (pos 0) ≡ true
 below_passes (pos n) h = absurd (omega (arith, ints))

@@ -1,5 +1,5 @@
 -- What a basis keeps while it moves.
-use Rattle.std.proofs.Common.{◌≡◌, ◌≢◌, ℕ, ◌+◌, ◌*◌, ◌^◌, ◌<◌, ◌≤◌, refl, sym, ap, ◌∙◌, subst, arith, ℤ, pos, ◌<ℤ◌, List, [], ◌∷◌, ◌++◌, length, get_or, map, unsigned_abs, Some}
+use Rattle.std.proofs.Common.{◌≡◌, ◌≢◌, ℕ, zero, suc, ◌+◌, ◌-ℤ◌, ◌≤ℤ◌, ◌⊎◌, inl, inr, ◌*◌, ◌^◌, ◌<◌, ◌≤◌, refl, sym, ap, ◌∙◌, subst, arith, ℤ, pos, ◌<ℤ◌, List, [], ◌∷◌, ◌++◌, length, get_or, map, unsigned_abs, Some}
 use Rattle.std.specs.Prelude.{slice_get}
 use Rattle.std.proofs.lemmas.Int.{ints}
 use Rattle.ntfe_model.specs.declared.nogood.Fold.{Fold}
@@ -9,13 +9,14 @@ use Rattle.strict_solver.specs.declared.basis.Basis.{Basis}
 use Rattle.strict_solver.specs.Rows.{number, PlacesWithin}
 use Rattle.strict_solver.specs.Starts.{IsFoldOver, AreFoldsOver}
 use Rattle.strict_solver.specs.Mixing.{AreNarrowRows}
-use Rattle.strict_solver.specs.Standing.{cell_at, constant_of, IsSized, StandsAtEnd, StandsLoaded, HasSlackRow, IsFirstBelow, LoadsNothing, IsFirstHeight, HasNoneEntering, IsFirstToEnter, HasSameSizes, HasOtherLine, IsExchanged, IsStuck}
+use Rattle.strict_solver.specs.Standing.{fold_sum, cell_at, constant_of, IsSized, StandsAtEnd, StandsLoaded, HasSlackRow, HasNoneBelow, IsFirstBelow, LoadsNothing, IsFirstHeight, HasNoneEntering, IsFirstToEnter, HasSameSizes, HasOtherLine, IsExchanged, IsStuck}
 use Rattle.strict_solver.proofs.Elimination.{from_place, at_place}
 use Rattle.strict_solver.proofs.Standing.{place-basic}
 use Rattle.strict_solver.proofs.Outcome.{are_rows}
 use Rattle.strict_solver.proofs.SlackLines.{reached-length}
-use Rattle.strict_solver.proofs.StandingRows.{idles, loads}
-use Rattle.strict_solver.proofs.StandingMoves.{basic, stuck, moves-to}
+use Rattle.strict_solver.proofs.Moves.{move_of-feasible, moving-feasible}
+use Rattle.strict_solver.proofs.StandingRows.{last_place, front_place, idles, loads}
+use Rattle.strict_solver.proofs.StandingMoves.{slack-row, basic, stuck, moves-to, none-below, ends}
 
 -- the memory is as it was, and the basis stands for a table of the run, with nothing left to load
 pub record IsSettling (old now : Basis) (fs : List Fold) : Type 0 where
@@ -62,6 +63,9 @@ module _ (b c : Basis) (o : HasOtherLine b c) where
 
   pub other_below : (fs : List Fold) (j : ℕ) → IsFirstBelow b fs j → IsFirstBelow c fs j
   other_below fs j h = let P : Basis → Type 0 = λ k. IsFirstBelow k fs j in subst P (sym as_relined) (record { fold = h.fold; is = h.is; below = h.below; before = h.before })
+
+  pub other_first : (f : Fold) (y : ℕ) → IsFirstHeight b f y → IsFirstHeight c f y
+  other_first f y h = let P : Basis → Type 0 = λ k. IsFirstHeight k f y in subst P (sym as_relined) (record { within = h.within; column = h.column; is = h.is; some = h.some; before = h.before })
 
   pub all_over : (fs : List Fold) → AreFoldsOver b.columns fs → AreFoldsOver c.columns fs
   all_over fs h = record { each = λ j f e. other_over f (h.each j f e) }
@@ -110,37 +114,72 @@ module _ (b : Basis) (fs : List Fold) (over : AreFoldsOver b.columns fs) (h : St
   pub within_now : PlacesWithin (c.columns + 2) c.places.items
   within_now = record { each = λ v p e. (now.stands.within v p e).1 }
 
--- ---- a basis at the end of a run, with the line of one more row
-module _ (b : Basis) (fs before : List Fold) (f : Fold) (over : AreFoldsOver b.columns fs) (all : fs ≡ before ++ f ∷ []) (h : StandsAtEnd b before) where
-  last_at : (gs : List Fold) → slice_get (gs ++ f ∷ []) (length gs) ≡ Some f
-  last_at [] = refl
-  last_at (g ∷ gs) = last_at gs
+-- ---- folds with one more
+module _ (n : ℕ) (before : List Fold) (f : Fold) (over : AreFoldsOver n (before ++ f ∷ [])) where
+  pub last_over : IsFoldOver n f
+  last_over = over.each (length before) f (last_place before f)
 
-  pub last_over : IsFoldOver b.columns f
-  last_over = let P : List Fold → Type 0 = λ gs. slice_get gs (length before) ≡ Some f in over.each (length before) f (subst P (sym all) (last_at before))
+  pub front_over : AreFoldsOver n before
+  front_over = record { each = λ j g e. over.each j g (front_place before f g j e) }
 
-  module _ (c : Basis) (o : HasOtherLine b c) where
-    end : StandsAtEnd c before
-    end = other_end b c o before h
+front_or_last : (gs : List Fold) (f g : Fold) (j : ℕ) → slice_get (gs ++ f ∷ []) j ≡ Some g → (slice_get gs j ≡ Some g) ⊎ (f ≡ g)
+front_or_last [] f g zero e = inr cc
+front_or_last [] f g (suc j) e = cc
+front_or_last (h ∷ gs) f g zero e = inl e
+front_or_last (h ∷ gs) f g (suc j) e = front_or_last gs f g j e
 
-    pub end_within : PlacesWithin (c.columns + 2) c.places.items
-    end_within = record { each = λ v p e. (end.stands.within v p e).1 }
+-- ---- a basis at the end of a run
+module _ (b : Basis) (before : List Fold) (h : StandsAtEnd b before) where
+  pub end_within : PlacesWithin (b.columns + 2) b.places.items
+  end_within = record { each = λ v p e. (h.stands.within v p e).1 }
 
-    pub end_first : (k : ℕ) → k < c.columns → cell_at c.columns c.cells.items 0 k ≡ c.denominator
-    end_first = end.stands.first
+  pub end_first : (k : ℕ) → k < b.columns → cell_at b.columns b.cells.items 0 k ≡ b.denominator
+  end_first = h.stands.first
 
-    pub end_enough : c.columns ≤ length c.places.items
-    end_enough = let a = end.stands.count in let e = reached-length c.columns (map (fold_row c.columns) before) (are_rows c.columns before) end.ends.steps end.end end.ends.reaches in omega arith
+  pub end_enough : b.columns ≤ length b.places.items
+  end_enough = let a = h.stands.count in let e = reached-length b.columns (map (fold_row b.columns) before) (are_rows b.columns before) h.ends.steps h.end h.ends.reaches in omega arith
 
-    module _ (k : HasSlackRow c f) (d : Basis) (ec : d.columns ≡ c.columns) (el : d.cells ≡ c.cells) (ed : d.denominator ≡ c.denominator) (ep : d.places.items ≡ c.places.items ++ Row 0 ∷ []) where
-      over_c : IsFoldOver c.columns f
-      over_c = other_over b c o f last_over
+  -- one more row has no height to load
+  module _ (f : Fold) (over : AreFoldsOver b.columns (before ++ f ∷ [])) (none : LoadsNothing b f) (d : Basis) (ec : d.columns ≡ b.columns) (el : d.cells ≡ b.cells) (ed : d.denominator ≡ b.denominator) (ep : d.places.items ≡ b.places.items ++ Row 0 ∷ []) where
+    pub end_idles : StandsLoaded d (before ++ f ∷ [])
+    end_idles =
+        let r = slack-row b.columns b.cells.items b.denominator f in
+        idles b before f (last_over b.columns before f over) h r.0 r.1 none d ec el ed ep
 
-      pub end_idles : LoadsNothing c → StandsLoaded d fs
-      end_idles n = let P : List Fold → Type 0 = λ gs. StandsLoaded d gs in subst P (sym all) (idles c before f over_c end k n d ec el ed ep)
+    none_before : HasNoneBelow b before
+    none_before =
+        let m = move_of-feasible b.columns h.end h.ends.move in
+        none-below b before (front_over b.columns before f over) (record { table = h.end; loaded = record { steps = h.ends.steps; reaches = h.ends.reaches; done = m.0 }; stands = h.stands })
+        (moving-feasible b.columns h.end.lines m.1)
 
-      pub end_loads : d.line ≡ c.line → (y : ℕ) → IsFirstHeight c y → (e : Basis) → IsExchanged d e (length c.places.items) y → StandsAtEnd e fs
-      end_loads en y i e x = let P : List Fold → Type 0 = λ gs. StandsAtEnd e gs in subst P (sym all) (loads c before f over_c end k y i d e ec el ed en ep x)
+    -- only the slack of the last row can be negative
+    pub end_stays : pos 0 ≤ℤ constant_of b f → StandsAtEnd d (before ++ f ∷ [])
+    end_stays l = ends d (before ++ f ∷ []) (over_same b.columns d.columns (before ++ f ∷ []) ec over) end_idles (λ j g e. none_now g (by g (front_or_last before f g j e) (none_before j g)))
+      where
+        none_now : (g : Fold) → pos 0 ≤ℤ constant_of b g → pos 0 ≤ℤ constant_of d g
+        none_now g = let P : ℤ → Type 0 = λ z. pos 0 ≤ℤ z in subst P (λ t. fold_sum (cell_at (sym ec t) (ap (λ v. v.items) (sym el) t) 1) g -ℤ sym ed t)
 
-    pub end_after : (y : ℕ) (i : IsFirstHeight c y) → (2 ≤ i.column) × (i.column < c.columns + 2)
-    end_after y i = end.stands.within y i.column i.is
+        by : (g : Fold) → {X : Type 0} → X ⊎ (f ≡ g) → (X → pos 0 ≤ℤ constant_of b g) → pos 0 ≤ℤ constant_of b g
+        by g (inl e) k = k e
+        by g (inr e) k = let P : Fold → Type 0 = λ q. pos 0 ≤ℤ constant_of b q in subst P e l
+
+  -- one more row, whose line is kept, has a height to load
+  module _ (f : Fold) (over : IsFoldOver b.columns f) (y : ℕ) (i : IsFirstHeight b f y) (c : Basis) (o : HasOtherLine b c) (k : HasSlackRow c f) where
+    now_first : IsFirstHeight c f y
+    now_first = other_first b c o f y i
+
+    now_end : StandsAtEnd c before
+    now_end = other_end b c o before h
+
+    pub end_enters : (p : ℕ) × (slice_get c.places.items y ≡ Some (Column p)) × (2 ≤ p) × (p < c.columns + 2) × (number c.line.items p ≢ pos 0)
+    end_enters =
+        let n = now_first in
+        let w = now_end.stands.within y n.column n.is in
+        (n.column, n.is, w.0, w.1, (λ e. n.some (sym (k.row.coefficients n.column w.0 w.1) ∙ e)))
+
+    pub still_first : (j : ℕ) → j < c.columns → cell_at c.columns c.cells.items 0 j ≡ c.denominator
+    still_first = now_end.stands.first
+
+    pub end_loads : (d : Basis) → d.columns ≡ c.columns → d.cells ≡ c.cells → d.denominator ≡ c.denominator → d.line.items ≡ c.line.items → d.places.items ≡ c.places.items ++ Row 0 ∷ []
+        → (e : Basis) → IsExchanged d e (length c.places.items) y → StandsAtEnd e (before ++ f ∷ [])
+    end_loads d ec el ed en ep e x = loads c before f (other_over b c o f over) now_end c.line.items k.row y now_first d e ec el ed en ep x

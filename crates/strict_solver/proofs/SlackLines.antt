@@ -19,10 +19,7 @@ use Rattle.strict_solver.proofs.Runs.{AreRows, start_lines, start-at, start-leng
 use Rattle.strict_solver.proofs.Directions.{combination-one, IsDirection, direction_values, direction}
 use Rattle.strict_solver.proofs.Deciding.{combination-padded}
 use Rattle.strict_solver.proofs.Unique.{proportion, proportional-same, zero_left, zero_right}
-
-basic_or_not : (o : Option Line) → ((r : Line) × (o ≡ Some r)) ⊎ (o ≡ None)
-basic_or_not None = inr refl
-basic_or_not (Some r) = inl (r, refl)
+use Rattle.strict_solver.proofs.Entries.{basic_or_not}
 
 -- the values where the variables that are not basic are 0
 module _ (q : List ℤ) (s : List (Option Line)) (ws : IsTable s) where

@@ -2,15 +2,13 @@
 --     raw-line       a slack's row is a line for its fold
 --     joins          with one more slack, basic, it stands for the table with that slack's line
 --     pivoted        with the slack's row put in, it stands for the table after the pivot
-use Rattle.std.proofs.Common.{◌≡◌, ◌≢◌, ℕ, zero, suc, ◌+◌, ◌-◌, ◌<◌, ◌≤◌, ◌⊎◌, inl, inr, refl, sym, ap, ◌∙◌, subst, arith, ℤ, pos, negsuc, ◌+ℤ◌, ◌-ℤ◌, ◌*ℤ◌, ◌<ℤ◌, List, [], ◌∷◌, ◌++◌, map, take, length, length-append, length-set, get_or, set, get_or-set_same, get_or-set_other, Some, None, Option}
+use Rattle.std.proofs.Common.{◌≡◌, ◌≢◌, ℕ, zero, suc, ◌+◌, ◌-◌, ◌<◌, ◌≤◌, ◌⊎◌, inl, inr, refl, sym, ap, ◌∙◌, subst, arith, ℤ, pos, ◌+ℤ◌, ◌-ℤ◌, ◌*ℤ◌, ◌<ℤ◌, List, [], ◌∷◌, ◌++◌, map, take, length, length-append, length-set, get_or, set, get_or-set_same, get_or-set_other, Some, None, Option}
 use Rattle.std.specs.Prelude.{slice_get}
-use Rattle.std.specs.List.{range_with_len}
 use Rattle.std.proofs.lemmas.Int.{ints}
 use Rattle.std.proofs.lemmas.List.{length-map, get_or_past, map-append, length-take-le, get_or-take}
 use Rattle.ntfe_nums.specs.Vectors.{sign}
 use Rattle.ntfe_nums.proofs.Ring.{ring}
 use Rattle.ntfe_nums.proofs.Ring.Expression.{var, num, plus, minus, times}
-use Rattle.ntfe_model.specs.Certificates.{fold_coefficient}
 use Rattle.ntfe_model.specs.declared.nogood.Fold.{Fold}
 use Rattle.ntfe_model.specs.Solver.{Line, fold_row, IsNextLine, IsPivot}
 use Rattle.strict_solver.specs.declared.place.Place.{Place}
@@ -31,12 +29,8 @@ use Rattle.strict_solver.proofs.Following.{AreLowest}
 use Rattle.strict_solver.proofs.Deciding.{wider-holds}
 use Rattle.strict_solver.proofs.Joining.{split-last, row-values, row-get, row-last, row-length}
 use Rattle.strict_solver.proofs.Unique.{cancel}
-use Rattle.strict_solver.proofs.Words.{by_sign, by_negative}
-
-pub sign_positive : (z : ℤ) → z ≢ pos 0 → pos 0 <ℤ (sign z *ℤ z)
-sign_positive (pos zero) n = absurd (n refl)
-sign_positive (pos (suc n)) m = let e = by_sign (pos (suc n)) (pos (suc n)) (omega (arith, ints)) in omega (arith, ints)
-sign_positive (negsuc n) m = let e = by_negative (negsuc n) (negsuc n) (omega (arith, ints)) in omega (arith, ints)
+use Rattle.strict_solver.proofs.Steps.{sign_positive}
+use Rattle.strict_solver.proofs.Starting.{fold_row-length}
 
 -- ---- sums over the variables
 folded : (line a b c e : List ℤ) (al be : ℤ) (places : List Place) (vs : List ℤ) → ((v p : ℕ) → slice_get places v ≡ Some (Column p) → number line p ≡ number c p +ℤ number e p -ℤ al *ℤ number a p -ℤ be *ℤ number b p)
@@ -78,17 +72,10 @@ combination-first (e ∷ es) vs zero l = absurd (omega arith)
 combination-first (e ∷ es) [] (suc n) l = refl
 combination-first (e ∷ es) (v ∷ vs) (suc n) l = ap (λ z. e *ℤ v +ℤ z) (combination-first es vs n (omega arith))
 
-range_length : (a n : ℕ) → length (range_with_len a n) ≡ n
-range_length a zero = refl
-range_length a (suc n) = ap suc (range_length (a + 1) n)
-
-row_length : (n : ℕ) (f : Fold) → length (fold_row n f) ≡ n
-row_length n f = length-map (range_with_len 1 n) (fold_coefficient f) ∙ range_length 1 n
-
 -- a fold's value at the first values, the heights
 pub fold-values : (columns : ℕ) (f : Fold) (vs : List ℤ) → columns ≤ length vs → IsFoldOver columns f → combination (fold_row columns f) vs ≡ fold_sum (λ k. get_or vs k (pos 0)) f
 fold-values columns f vs c h =
-    sym (combination-first (fold_row columns f) vs columns (let a = row_length columns f in omega arith))
+    sym (combination-first (fold_row columns f) vs columns (let a = fold_row-length columns f in omega arith))
     ∙ row_value columns f (take columns vs) (length-take-le columns vs c) h
     ∙ (λ t. at f.c h.c t +ℤ at f.d h.d t -ℤ f.alpha *ℤ at f.a h.a t -ℤ f.beta *ℤ at f.b h.b t)
   where

@@ -1,6 +1,7 @@
 -- The moves of a basis are those of the stated run.
 --     slack-row          each fold has a slack's row
 --     ends               where no slack is negative, the run ends
+--     none-below         where it ends, none is
 --     leaves, enters     which slack leaves and which enters
 --     moves-to           after the exchange the basis stands for the next table
 --     stuck              where no slack can enter, the run ends infeasible
@@ -27,8 +28,8 @@ use Rattle.strict_solver.specs.Continuing.{IsLineFor, HasLoadedTo}
 use Rattle.strict_solver.specs.Standing.{fold_sum, cell_at, constant_of, IsSlackRow, StandsFor, StandsAtEnd, StandsLoaded, HasSlackRow, HasNoneBelow, IsFirstBelow, HasNoneEntering, IsFirstToEnter, IsExchanged, IsStuck}
 use Rattle.strict_solver.proofs.Pivots.{IsTable}
 use Rattle.strict_solver.proofs.Runs.{AreRows}
-use Rattle.strict_solver.proofs.Values.{product_at_least, product_positive, product_negative, factor_negative, factor_at_least, product_at_most}
-use Rattle.strict_solver.proofs.Moves.{IsMove}
+use Rattle.strict_solver.proofs.Values.{product_negative, factor_negative, factor_at_least, product_at_most}
+use Rattle.strict_solver.proofs.Moves.{no_first_slack, int_lt-not_zero, IsMove}
 use Rattle.strict_solver.proofs.Steps.{step_lines, step-is, move-pivotable}
 use Rattle.strict_solver.proofs.Searches.{found_at, found_nowhere, slack_test, slack_before, first_slack_at, first_slack_none, below_passes, below_fails, above_passes, above_fails, entering_test, entering_before}
 use Rattle.strict_solver.proofs.Placing.{coefficient_there}
@@ -39,6 +40,7 @@ use Rattle.strict_solver.proofs.Outcome.{are_rows}
 use Rattle.strict_solver.proofs.Path.{moves-on, ends-here}
 use Rattle.strict_solver.proofs.SlackLines.{constants-proportional, lines-proportional, reached-table, reached-length, slack-value, slack-line, idle-constant}
 use Rattle.strict_solver.proofs.Standing.{raw-line, pivoted}
+use Rattle.ntfe_nums.proofs.Signs.{positive_product, product_not_negative}
 
 -- ---- the row of a slack
 abbrev entry : ℕ → List ℤ → ℤ → Fold → ℕ → ℤ
@@ -67,7 +69,7 @@ slack-row columns cells d f = (
 
 -- ---- signs of proportional numbers
 same_least : (d g a b : ℤ) → pos 0 <ℤ d → pos 0 <ℤ g → g *ℤ a ≡ d *ℤ b → pos 0 ≤ℤ a → pos 0 ≤ℤ b
-same_least d g a b pd pg e h = factor_at_least d b pd (let P : ℤ → Type 0 = λ z. pos 0 ≤ℤ z in subst P e (product_at_least g a (weak g pg) h))
+same_least d g a b pd pg e h = factor_at_least d b pd (let P : ℤ → Type 0 = λ z. pos 0 ≤ℤ z in subst P e (product_not_negative g a (weak g pg) h))
   where
     weak : (z : ℤ) → pos 0 <ℤ z → pos 0 ≤ℤ z
     weak z l = omega (arith, ints)
@@ -76,7 +78,7 @@ same_negative : (d g a b : ℤ) → pos 0 <ℤ d → pos 0 <ℤ g → g *ℤ a �
 same_negative d g a b pd pg e h = factor_negative d b pd (let P : ℤ → Type 0 = λ z. z <ℤ pos 0 in subst P e (product_negative g a pg h))
 
 same_positive : (d g a b : ℤ) → pos 0 <ℤ d → pos 0 <ℤ g → g *ℤ a ≡ d *ℤ b → pos 0 <ℤ a → pos 0 <ℤ b
-same_positive d g a b pd pg e h = by (product_positive g a pg h) (λ i. product_at_most' d b pd i)
+same_positive d g a b pd pg e h = by (positive_product g a pg h) (λ i. product_at_most' d b pd i)
   where
     product_at_most' : (d b : ℤ) → pos 0 <ℤ d → b ≤ℤ pos 0 → (d *ℤ b) ≤ℤ pos 0
     product_at_most' d b p i = let k = product_at_most b d i (weak d p) in let c : d *ℤ b ≡ b *ℤ d = ring (d ∷ b ∷ []) (times (var 0) (var 1)) (times (var 1) (var 0)) refl in omega (arith, ints)
@@ -93,7 +95,7 @@ same_positive d g a b pd pg e h = by (product_positive g a pg h) (λ i. product_
         above (negsuc n) k = absurd (k (omega (arith, ints)))
 
 same_most : (d g a b : ℤ) → pos 0 <ℤ d → pos 0 <ℤ g → g *ℤ a ≡ d *ℤ b → a ≤ℤ pos 0 → b ≤ℤ pos 0
-same_most d g a b pd pg e h = below b (λ i. (let k = product_positive d b pd i in let l = least g a pg h in omega (arith, ints)))
+same_most d g a b pd pg e h = below b (λ i. (let k = positive_product d b pd i in let l = least g a pg h in omega (arith, ints)))
   where
     least : (g a : ℤ) → pos 0 <ℤ g → a ≤ℤ pos 0 → (g *ℤ a) ≤ℤ pos 0
     least g a p i = let k = product_at_most a g i (weak g p) in let c : g *ℤ a ≡ a *ℤ g = ring (g ∷ a ∷ []) (times (var 0) (var 1)) (times (var 1) (var 0)) refl in omega (arith, ints)
@@ -181,6 +183,23 @@ module _ (b : Basis) (fs : List Fold) (over : AreFoldsOver b.columns fs) (h : St
       by j l (inr c) =
           let f = fold-at j c l in
           ap (slack_test b.columns (λ r. int_lt r.c (pos 0)) h.table.lines) f.2 ∙ passes-not (j - b.columns) f.0 f.1 (n (j - b.columns) f.0 f.1)
+
+  -- where the run ends, no slack is negative
+  pub none-below : first_negative b.columns h.table.lines ≡ None → HasNoneBelow b fs
+  none-below none j f e = by (get_or h.table.lines (b.columns + j) None) refl
+    where
+      line : (k : List ℤ) × IsSlackRow b.columns b.cells.items b.denominator f k
+      line = slack-row b.columns b.cells.items b.denominator f
+
+      at : pos 0 ≤ℤ number line.0 1 → pos 0 ≤ℤ constant_of b f
+      at = let P : ℤ → Type 0 = λ z. pos 0 ≤ℤ z in subst P line.1.constant
+
+      by : (o : Option Line) → get_or h.table.lines (b.columns + j) None ≡ o → pos 0 ≤ℤ constant_of b f
+      by None g = at (let a = idle j f e line.0 line.1 g in omega (arith, ints))
+      by (Some r) g =
+          let l : b.columns + j < length h.table.lines = (let a = loaded-length in let c = (row-of j f e).0 in omega arith) in
+          let n = int_lt-not_zero r.c (no_first_slack b.columns (λ q. int_lt q.c (pos 0)) h.table.lines none (b.columns + j) r (omega arith) l g) in
+          at (same_least r.d (number line.0 0) r.c (number line.0 1) (real j f e line.0 line.1 r g).positive (raw j f e line.0 line.1).positive (sym (constants j f e line.0 line.1 r g)) n)
 
   pub ends : HasNoneBelow b fs → StandsAtEnd b fs
   ends n = record {

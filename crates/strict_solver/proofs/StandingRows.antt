@@ -16,7 +16,7 @@ use Rattle.strict_solver.specs.Grids.{row_at}
 use Rattle.strict_solver.specs.Starts.{IsFoldOver}
 use Rattle.strict_solver.specs.Equations.{combination, Holds}
 use Rattle.strict_solver.specs.Continuing.{wider, with_row, IsLineFor, IsLeastHeight, EndsWith, HasLoadedTo}
-use Rattle.strict_solver.specs.Standing.{StandsFor, StandsAtEnd, StandsLoaded, HasSlackRow, LoadsNothing, IsFirstHeight, IsExchanged, IsPutIn}
+use Rattle.strict_solver.specs.Standing.{StandsFor, StandsAtEnd, StandsLoaded, IsSlackRow, fold_sum, cell_at, LoadsNothing, IsFirstHeight, IsExchanged, IsPutIn}
 use Rattle.strict_solver.proofs.Forms.{reduced_parts, reduced-holds}
 use Rattle.strict_solver.proofs.Pivots.{IsTable}
 use Rattle.strict_solver.proofs.Runs.{AreRows}
@@ -35,11 +35,11 @@ use Rattle.strict_solver.proofs.Standing.{raw-line, place-other, joins, pivoted}
 use Rattle.ntfe_model.specs.Solver.{start_table}
 
 -- a place that comes last
-pub last_place : (ps : List Place) (o : Place) → slice_get (ps ++ o ∷ []) (length ps) ≡ Some o
+pub last_place : {A : Type 0} (ps : List A) (o : A) → slice_get (ps ++ o ∷ []) (length ps) ≡ Some o
 last_place [] o = refl
 last_place (p ∷ ps) o = last_place ps o
 
-pub front_place : (ps : List Place) (o q : Place) (v : ℕ) → slice_get ps v ≡ Some q → slice_get (ps ++ o ∷ []) v ≡ Some q
+pub front_place : {A : Type 0} (ps : List A) (o q : A) (v : ℕ) → slice_get ps v ≡ Some q → slice_get (ps ++ o ∷ []) v ≡ Some q
 front_place [] o q v e = cc
 front_place (p ∷ ps) o q zero e = e
 front_place (p ∷ ps) o q (suc v) e = front_place ps o q v e
@@ -47,7 +47,7 @@ front_place (p ∷ ps) o q (suc v) e = front_place ps o q v e
 one-more : (n : ℕ) (fs : List Fold) (f : Fold) → map (fold_row n) (fs ++ f ∷ []) ≡ map (fold_row n) fs ++ fold_row n f ∷ []
 one-more n fs f = map-append (fold_row n) fs (f ∷ [])
 
-module _ (b : Basis) (fs : List Fold) (f : Fold) (over : IsFoldOver b.columns f) (h : StandsAtEnd b fs) (k : HasSlackRow b f) where
+module _ (b : Basis) (fs : List Fold) (f : Fold) (over : IsFoldOver b.columns f) (h : StandsAtEnd b fs) (line : List ℤ) (k : IsSlackRow b.columns b.cells.items b.denominator f line) where
   rs : List (List ℤ)
   rs = map (fold_row b.columns) fs
 
@@ -70,35 +70,38 @@ module _ (b : Basis) (fs : List Fold) (f : Fold) (over : IsFoldOver b.columns f)
   end-lowest = run-lowest b.columns (start_table b.columns (map (fold_row b.columns) fs)) h.ends.reaches.tables h.end h.ends.reaches.run (start-lowest b.columns (length (map (fold_row b.columns) fs)) (map (fold_row b.columns) fs))
 
   raw : Line
-  raw = line_in b.places.items b.line.items
+  raw = line_in b.places.items line
 
-  raw-for : IsLineFor (fold_row b.columns f) h.end.lines (line_in b.places.items b.line.items)
-  raw-for = raw-line b.columns b.places.items b.cells.items b.denominator h.end.lines h.stands f b.line.items wide-enough over k.row
+  raw-for : IsLineFor (fold_row b.columns f) h.end.lines (line_in b.places.items line)
+  raw-for = raw-line b.columns b.places.items b.cells.items b.denominator h.end.lines h.stands f line wide-enough over k
 
   low : Line
-  low = reduced (line_in b.places.items b.line.items)
+  low = reduced (line_in b.places.items line)
 
-  low-is : IsReduced (line_in b.places.items b.line.items) (reduced (line_in b.places.items b.line.items))
-  low-is = reduced-is (line_in b.places.items b.line.items) raw-for.positive
+  low-is : IsReduced (line_in b.places.items line) (reduced (line_in b.places.items line))
+  low-is = reduced-is (line_in b.places.items line) raw-for.positive
 
-  low-for : IsLineFor (fold_row b.columns f) h.end.lines (reduced (line_in b.places.items b.line.items))
-  low-for = line-reduced (fold_row b.columns f) h.end.lines (line_in b.places.items b.line.items) (reduced (line_in b.places.items b.line.items)) raw-for low-is
+  low-for : IsLineFor (fold_row b.columns f) h.end.lines (reduced (line_in b.places.items line))
+  low-for = line-reduced (fold_row b.columns f) h.end.lines (line_in b.places.items line) (reduced (line_in b.places.items line)) raw-for low-is
 
   -- a height that is not basic has a column, whose number the line has
-  clear : (j : ℕ) → j < b.columns → get_or h.end.lines j None ≡ None → ((p : ℕ) → slice_get b.places.items j ≡ Some (Column p) → number b.line.items p ≡ pos 0) → coefficient_at (reduced (line_in b.places.items b.line.items)) j ≡ pos 0
+  clear : (j : ℕ) → j < b.columns → get_or h.end.lines j None ≡ None → ((p : ℕ) → slice_get b.places.items j ≡ Some (Column p) → number line p ≡ pos 0) → coefficient_at (reduced (line_in b.places.items line)) j ≡ pos 0
   clear j l n e =
       let p = place-other b.columns b.places.items b.cells.items b.denominator h.end.lines h.stands j (let a = wide-enough in omega arith) n in
-      reduced-clear (line_in b.places.items b.line.items) (reduced (line_in b.places.items b.line.items)) j low-is (coefficient_there b.places.items b.line.items j (Column p.0) p.1 ∙ e p.0 p.1)
+      reduced-clear (line_in b.places.items line) (reduced (line_in b.places.items line)) j low-is (coefficient_there b.places.items line j (Column p.0) p.1 ∙ e p.0 p.1)
 
-  joined : StandsFor b.columns (b.places.items ++ Row 0 ∷ []) b.cells.items b.denominator (with_row h.end.lines (reduced (line_in b.places.items b.line.items)))
-  joined = joins b.columns b.places.items b.cells.items b.denominator h.end.lines h.stands (fold_row b.columns f) (reduced (line_in b.places.items b.line.items)) wide-enough end-table end-lowest low-for low-is.lowest
+  entry : (j p : ℕ) → slice_get b.places.items j ≡ Some (Column p) → number line p ≡ fold_sum (cell_at b.columns b.cells.items p) f
+  entry j p e = let w = h.stands.within j p e in k.coefficients p w.0 w.1
+
+  joined : StandsFor b.columns (b.places.items ++ Row 0 ∷ []) b.cells.items b.denominator (with_row h.end.lines (reduced (line_in b.places.items line)))
+  joined = joins b.columns b.places.items b.cells.items b.denominator h.end.lines h.stands (fold_row b.columns f) (reduced (line_in b.places.items line)) wide-enough end-table end-lowest low-for low-is.lowest
 
   more-rows : (t : Table) → EndsWith b.columns (map (fold_row b.columns) fs ++ fold_row b.columns f ∷ []) t → EndsWith b.columns (map (fold_row b.columns) (fs ++ f ∷ [])) t
   more-rows t e = let P : List (List ℤ) → Type 0 = λ q. EndsWith b.columns q t in subst P (sym (one-more b.columns fs f)) e
 
-  pub idles : LoadsNothing b → (c : Basis) → c.columns ≡ b.columns → c.cells ≡ b.cells → c.denominator ≡ b.denominator → c.places.items ≡ b.places.items ++ Row 0 ∷ [] → StandsLoaded c (fs ++ f ∷ [])
+  pub idles : LoadsNothing b f → (c : Basis) → c.columns ≡ b.columns → c.cells ≡ b.cells → c.denominator ≡ b.denominator → c.places.items ≡ b.places.items ++ Row 0 ∷ [] → StandsLoaded c (fs ++ f ∷ [])
   idles none c ec el ed ep =
-      let g = going-idles b.columns (map (fold_row b.columns) fs) (fold_row b.columns f) rows-more h.end h.ends (reduced (line_in b.places.items b.line.items)) low-for low-is.lowest (λ j l n. clear j l n (λ p e. none j p l e)) in
+      let g = going-idles b.columns (map (fold_row b.columns) fs) (fold_row b.columns f) rows-more h.end h.ends (reduced (line_in b.places.items line)) low-for low-is.lowest (λ j l n. clear j l n (λ p e. entry j p e ∙ none j p l e)) in
       let t = g.0 in
       let L : List (List ℤ) → Type 0 = λ q. HasLoadedTo b.columns q t in
       let loaded = subst L (sym (one-more b.columns fs f)) g.1 in
@@ -111,74 +114,74 @@ module _ (b : Basis) (fs : List Fold) (f : Fold) (over : IsFoldOver b.columns f)
       let T : List ℤ → Type 0 = λ xs. StandsFor b.columns (b.places.items ++ Row 0 ∷ []) xs b.denominator t.lines in
       record { table = t; loaded = subst M (sym ec) loaded; stands = subst P (sym ec) (subst Q (sym ep) (subst R (sym ed) (subst T (sym (ap (λ v. v.items) el)) stands))) }
 
-  module _ (y : ℕ) (i : IsFirstHeight b y) where
+  module _ (y : ℕ) (i : IsFirstHeight b f y) where
     other : get_or h.end.lines y None ≡ None
     other = h.stands.other y i.column i.is
 
-    least : IsLeastHeight b.columns h.end.lines (reduced (line_in b.places.items b.line.items)) y
+    least : IsLeastHeight b.columns h.end.lines (reduced (line_in b.places.items line)) y
     least = record {
       within = i.within;
       other = other;
-      some = λ e. i.some (sym (coefficient_there b.places.items b.line.items y (Column i.column) i.is) ∙ scaled e);
-      least = λ j l n. clear j (let a = i.within in omega arith) n (λ p e. i.before j p l e);
+      some = λ e. i.some (sym (entry y i.column i.is) ∙ sym (coefficient_there b.places.items line y (Column i.column) i.is) ∙ scaled e);
+      least = λ j l n. clear j (let a = i.within in omega arith) n (λ p e. entry j p e ∙ i.before j p l e);
     }
       where
-        p : (line_in b.places.items b.line.items).coefficients ≡ map (λ e. pos low-is.k *ℤ e) (reduced (line_in b.places.items b.line.items)).coefficients
-        p = (reduced_parts (line_in b.places.items b.line.items) (reduced (line_in b.places.items b.line.items)) low-is).2
+        p : (line_in b.places.items line).coefficients ≡ map (λ e. pos low-is.k *ℤ e) (reduced (line_in b.places.items line)).coefficients
+        p = (reduced_parts (line_in b.places.items line) (reduced (line_in b.places.items line)) low-is).2
 
-        scaled : coefficient_at (reduced (line_in b.places.items b.line.items)) y ≡ pos 0 → coefficient_at (line_in b.places.items b.line.items) y ≡ pos 0
+        scaled : coefficient_at (reduced (line_in b.places.items line)) y ≡ pos 0 → coefficient_at (line_in b.places.items line) y ≡ pos 0
         scaled e =
             ap (λ es. get_or es y (pos 0)) p
-            ∙ get_or-map (λ z. pos low-is.k *ℤ z) (reduced (line_in b.places.items b.line.items)).coefficients y (pos 0) (pos 0) (let a = low-for.count in let c = wide-enough in let d = i.within in omega arith)
+            ∙ get_or-map (λ z. pos low-is.k *ℤ z) (reduced (line_in b.places.items line)).coefficients y (pos 0) (pos 0) (let a = low-for.count in let c = wide-enough in let d = i.within in omega arith)
             ∙ ap (λ z. pos low-is.k *ℤ z) e ∙ product_zero (pos low-is.k)
 
     module _ (d : Basis) (r p : ℕ) (ex : slice_get (b.places.items ++ Row 0 ∷ []) (length b.places.items) ≡ Some (Row r)) (ey : slice_get (b.places.items ++ Row 0 ∷ []) y ≡ Some (Column p))
-        (ec : d.columns ≡ b.columns) (ep : d.places.items ≡ set (set (b.places.items ++ Row 0 ∷ []) (length b.places.items) (Column p)) y (Row r)) (ed : d.denominator ≡ sign (number b.line.items p) *ℤ number b.line.items p)
-        (put : (j : ℕ) → j < b.columns → IsPutIn b.line.items p b.denominator (row_at (b.columns + 2) b.cells.items j) (row_at (b.columns + 2) d.cells.items j)) where
-      next : (t : Table) × EndsWith b.columns (map (fold_row b.columns) fs ++ fold_row b.columns f ∷ []) t × IsPivot (length h.end.lines) y (with_row h.end.lines (reduced (line_in b.places.items b.line.items))) t.lines
+        (ec : d.columns ≡ b.columns) (ep : d.places.items ≡ set (set (b.places.items ++ Row 0 ∷ []) (length b.places.items) (Column p)) y (Row r)) (ed : d.denominator ≡ sign (number line p) *ℤ number line p)
+        (put : (j : ℕ) → j < b.columns → IsPutIn line p b.denominator (row_at (b.columns + 2) b.cells.items j) (row_at (b.columns + 2) d.cells.items j)) where
+      next : (t : Table) × EndsWith b.columns (map (fold_row b.columns) fs ++ fold_row b.columns f ∷ []) t × IsPivot (length h.end.lines) y (with_row h.end.lines (reduced (line_in b.places.items line))) t.lines
       next =
-          let g = going-loads b.columns (map (fold_row b.columns) fs) (fold_row b.columns f) rows-more h.end h.ends (reduced (line_in b.places.items b.line.items)) low-for low-is.lowest y least in
+          let g = going-loads b.columns (map (fold_row b.columns) fs) (fold_row b.columns f) rows-more h.end h.ends (reduced (line_in b.places.items line)) low-for low-is.lowest y least in
           (g.0, g.1, g.3)
 
       column-same : (m n : ℕ) → slice_get (b.places.items ++ Row 0 ∷ []) y ≡ Some (Column m) → slice_get (b.places.items ++ Row 0 ∷ []) y ≡ Some (Column n) → m ≡ n
       column-same m n e g = let a : Column m ≡ Column n = same_place (b.places.items ++ Row 0 ∷ []) y (Column m) (Column n) e g in cc
 
-      some : number b.line.items p ≢ pos 0
-      some e = i.some (ap (number b.line.items) (column-same i.column p (front_place b.places.items (Row 0) (Column i.column) y i.is) ey) ∙ e)
+      some : number line p ≢ pos 0
+      some e = i.some (sym (entry y i.column i.is) ∙ ap (number line) (column-same i.column p (front_place b.places.items (Row 0) (Column i.column) y i.is) ey) ∙ e)
 
-      slack : (one : ℤ) (vs : List ℤ) → length vs ≡ length (with_row h.end.lines (reduced (line_in b.places.items b.line.items))) → Holds one vs (with_row h.end.lines (reduced (line_in b.places.items b.line.items)))
-          → b.denominator *ℤ get_or vs (length h.end.lines) (pos 0) ≡ number b.line.items 1 *ℤ one +ℤ combination (map (number_at b.line.items) (b.places.items ++ Row 0 ∷ [])) vs
+      slack : (one : ℤ) (vs : List ℤ) → length vs ≡ length (with_row h.end.lines (reduced (line_in b.places.items line))) → Holds one vs (with_row h.end.lines (reduced (line_in b.places.items line)))
+          → b.denominator *ℤ get_or vs (length h.end.lines) (pos 0) ≡ number line 1 *ℤ one +ℤ combination (map (number_at line) (b.places.items ++ Row 0 ∷ [])) vs
       slack one vs c hs =
           let x = length h.end.lines in
-          let m = hs (length h.end.lines) (wider (reduced (line_in b.places.items b.line.items))) (row-last h.end.lines (reduced (line_in b.places.items b.line.items))) in
-          let e = (reduced-holds one vs (length h.end.lines) (wider (line_in b.places.items b.line.items)) (wider (reduced (line_in b.places.items b.line.items)))
-          (reduced-wider (line_in b.places.items b.line.items) (reduced (line_in b.places.items b.line.items)) low-is)).1 m in
-          ap (λ z. z *ℤ get_or vs (length h.end.lines) (pos 0)) (sym k.row.first)
+          let m = hs (length h.end.lines) (wider (reduced (line_in b.places.items line))) (row-last h.end.lines (reduced (line_in b.places.items line))) in
+          let e = (reduced-holds one vs (length h.end.lines) (wider (line_in b.places.items line)) (wider (reduced (line_in b.places.items line)))
+          (reduced-wider (line_in b.places.items line) (reduced (line_in b.places.items line)) low-is)).1 m in
+          ap (λ z. z *ℤ get_or vs (length h.end.lines) (pos 0)) (sym k.first)
           ∙ e
-          ∙ ap (λ es. number b.line.items 1 *ℤ one +ℤ combination es vs) (sym (map-append (number_at b.line.items) b.places.items (Row 0 ∷ [])))
+          ∙ ap (λ es. number line 1 *ℤ one +ℤ combination es vs) (sym (map-append (number_at line) b.places.items (Row 0 ∷ [])))
 
       pub loads-to : StandsAtEnd d (fs ++ f ∷ [])
       loads-to =
           let n = next in
-          let s = with_row h.end.lines (reduced (line_in b.places.items b.line.items)) in
-          let low = reduced (line_in b.places.items b.line.items) in
+          let s = with_row h.end.lines (reduced (line_in b.places.items line)) in
+          let low = reduced (line_in b.places.items line) in
           let t = n.0 in
           let X : ℕ → Type 0 = λ x. slice_get (b.places.items ++ Row 0 ∷ []) x ≡ Some (Row r) in
-          let now = pivoted b.columns (b.places.items ++ Row 0 ∷ []) b.cells.items b.denominator s joined t.lines (length h.end.lines) y r p b.line.items d.cells.items
+          let now = pivoted b.columns (b.places.items ++ Row 0 ∷ []) b.cells.items b.denominator s joined t.lines (length h.end.lines) y r p line d.cells.items
           (row-table (fold_row b.columns f) h.end.lines low end-table end-lowest low-for low-is.lowest)
           (let a = row-length h.end.lines low in let c = wide-enough in omega arith) (subst X h.stands.count ex) ey n.2 slack some put in
           let M : ℕ → Type 0 = λ m. EndsWith m (map (fold_row m) (fs ++ f ∷ [])) t in
-          let Y : ℕ → Type 0 = λ x. StandsFor b.columns (set (set (b.places.items ++ Row 0 ∷ []) x (Column p)) y (Row r)) d.cells.items (sign (number b.line.items p) *ℤ number b.line.items p) t.lines in
+          let Y : ℕ → Type 0 = λ x. StandsFor b.columns (set (set (b.places.items ++ Row 0 ∷ []) x (Column p)) y (Row r)) d.cells.items (sign (number line p) *ℤ number line p) t.lines in
           let P : ℕ → Type 0 = λ m. StandsFor m d.places.items d.cells.items d.denominator t.lines in
           let Q : List Place → Type 0 = λ ps. StandsFor b.columns ps d.cells.items d.denominator t.lines in
           let R : ℤ → Type 0 = λ z. StandsFor b.columns (set (set (b.places.items ++ Row 0 ∷ []) (length b.places.items) (Column p)) y (Row r)) d.cells.items z t.lines in
           record { end = t; ends = subst M (sym ec) (more-rows t n.1); stands = subst P (sym ec) (subst Q (sym ep) (subst R (sym ed) (subst Y (sym h.stands.count) now))) }
 
-    pub loads : (c d : Basis) → c.columns ≡ b.columns → c.cells ≡ b.cells → c.denominator ≡ b.denominator → c.line ≡ b.line → c.places.items ≡ b.places.items ++ Row 0 ∷ [] → IsExchanged c d (length b.places.items) y
+    pub loads : (c d : Basis) → c.columns ≡ b.columns → c.cells ≡ b.cells → c.denominator ≡ b.denominator → c.line.items ≡ line → c.places.items ≡ b.places.items ++ Row 0 ∷ [] → IsExchanged c d (length b.places.items) y
         → StandsAtEnd d (fs ++ f ∷ [])
     loads c d ec el ed en ep x =
         let p = x.column in
-        let lines : c.line.items ≡ b.line.items = ap (λ v. v.items) en in
+        let lines : c.line.items ≡ line = en in
         let cells : c.cells.items ≡ b.cells.items = ap (λ v. v.items) el in
         let S : List Place → Type 0 = λ ps. slice_get ps (length b.places.items) ≡ Some (Row x.row) in
         let T : List Place → Type 0 = λ ps. slice_get ps y ≡ Some (Column x.column) in

@@ -3,10 +3,17 @@ use Rattle.std.proofs.Common.{◌≡◌, ◌≢◌, ℕ, zero, suc, ◌+◌, ◌
 use Rattle.std.proofs.lemmas.Int.{ints}
 use Rattle.std.proofs.lemmas.Bool.Decides.{nat_tests}
 use Rattle.ntfe_model.specs.Certificates.{where_equal, fold_coefficient}
+use Rattle.std.specs.List.{range_with_len}
+use Rattle.std.proofs.lemmas.List.{length-map}
 use Rattle.ntfe_model.specs.declared.nogood.Fold.{Fold}
+use Rattle.ntfe_model.specs.Solver.{fold_row}
 use Rattle.strict_solver.specs.Rows.{number}
 use Rattle.strict_solver.specs.Starts.{IsFoldOver, IsStartRow}
 use Rattle.strict_solver.proofs.Rows.{unwrap64}
+use Rattle.ntfe_model.proofs.Lists.{range_length}
+
+pub fold_row-length : (n : ℕ) (f : Fold) → length (fold_row n f) ≡ n
+fold_row-length n f = length-map (range_with_len 1 n) (fold_coefficient f) ∙ range_length 1 n
 
 pub clear_small : (row : List ℤ) → number row 0 ≡ pos 1 → number row 1 ≡ neg_ℤ (pos 1) → ((k : ℕ) → 2 ≤ k → number row k ≡ pos 0) → (k : ℕ) → unsigned_abs (number row k) ≤ 1
 clear_small row a b c zero = omega (arith, ints)

@@ -26,7 +26,11 @@ use Rattle.strict_solver.proofs.Placing.{coefficient_there}
 use Rattle.strict_solver.proofs.Directions.{combination-one}
 use Rattle.strict_solver.proofs.Parts.{row_here, row_elsewhere, put_length}
 use Rattle.strict_solver.proofs.PuttingIn.{row_fits}
-use Rattle.strict_solver.proofs.Path.{no-rows}
+use Rattle.strict_solver.specs.Scales.{scale_to, scales_of, heights_by}
+use Rattle.strict_solver.proofs.Outcome.{are_rows}
+use Rattle.strict_solver.proofs.Path.{no-rows, end-heights}
+use Rattle.strict_solver.proofs.Scaling.{scaling_is}
+use Rattle.strict_solver.proofs.SlackLines.{reached-table}
 use Rattle.strict_solver.proofs.StandingMoves.{loaded-length}
 use Rattle.strict_solver.proofs.HeightsLine.{stuck-end, heights-are}
 
@@ -195,3 +199,11 @@ heights_answer b n xs fs line hs e f h t c each =
     let P : ℕ → Type 0 = λ k. IsFeasible k (map (fold_row k) fs) None hs in
     let Q : List Fold → Type 0 = λ ys. IsFeasible b.columns (map (fold_row b.columns) ys) None hs in
     subst P e (subst Q f (heights-are b xs h line t hs (c ∙ sym e) each))
+
+-- a known stem has heights
+pub some_heights : (b : Basis) (fs : List Fold) → IsKnownStem b fs → (hs : List ℤ) × IsFeasible b.columns (map (fold_row b.columns) fs) None hs
+some_heights b fs k =
+    let e = k.stands.ends in
+    let t = k.stands.end in
+    let table = reached-table b.columns (map (fold_row b.columns) fs) (are_rows b.columns fs) e.steps t e.reaches in
+    (heights_by b.columns (scale_to t.lines b.columns) t.lines, end-heights b.columns (map (fold_row b.columns) fs) t (scales_of b.columns t.lines) _ e (scaling_is b.columns t.lines table))

@@ -2,20 +2,20 @@
 --     step_lines x y s      the table after the pivot on x and y
 --     moves_left            the number of moves to come, within a bound; it falls at each move
 use Rattle.std.proofs.Common.{◌≡◌, ◌≢◌, ℕ, zero, suc, ◌+◌, ◌-◌, ◌<◌, ◌≤◌, ◌==◌, inl, inr, Bool, true, false, cond, refl, sym, ap, ◌∙◌, subst, arith, ℤ, pos, negsuc, ◌*ℤ◌, ◌<ℤ◌, List, [], ◌∷◌, length, get_or, Option, Some, None}
-use Rattle.std.specs.Prelude.{slice_get}
 use Rattle.std.proofs.lemmas.Int.{ints}
-use Rattle.std.proofs.lemmas.Bool.Decides.{nat_tests}
 use Rattle.ntfe_nums.specs.Vectors.{sign}
 use Rattle.ntfe_model.specs.Solver.{Line, Move, coefficient_at, solved_for, with_put_in, IsReduced, IsNextLine, IsPivot, moving}
 use Rattle.ntfe_model.specs.Solver.Move.{pivot, feasible, infeasible}
 use Rattle.strict_solver.specs.Grids.{IsPivotable}
 use Rattle.strict_solver.proofs.Reduced.{reduced, reduced-is}
 use Rattle.strict_solver.proofs.Pivots.{IsTable, get_here, get_there}
-use Rattle.strict_solver.proofs.Values.{product_positive}
 use Rattle.strict_solver.proofs.Moves.{IsMove, moving-pivot, first_slack-found, entering-found}
 use Rattle.strict_solver.proofs.Bland.{IsMovingStep, IsMoving, IsLoaded, step-table}
 use Rattle.strict_solver.proofs.Bases.{slack_sets}
 use Rattle.strict_solver.proofs.Bound.{few_moves}
+use Rattle.strict_solver.proofs.Entries.{slice_none}
+use Rattle.ntfe_nums.proofs.Comparisons.{same_from_test, other_from_test}
+use Rattle.ntfe_nums.proofs.Signs.{positive_product}
 
 abbrev next_line : ℕ → ℕ → Line → ℕ → Option Line → Option Line
 next_line x y m z None = cond (z == y) (Some m) None
@@ -41,15 +41,9 @@ next_from-get x y m a [] z h = absurd (omega arith)
 next_from-get x y m a (o ∷ s) zero h = ap (λ k. next_line x y m k o) (let e : a ≡ a + 0 = omega arith in e)
 next_from-get x y m a (o ∷ s) (suc z) h = next_from-get x y m (suc a) s z (omega arith) ∙ ap (λ k. next_line x y m k (get_or s z None)) (let e : suc a + z ≡ a + suc z = omega arith in e)
 
-same_number : (m n : ℕ) → (m == n) ≡ true → m ≡ n
-same_number m n h = grind (arith, nat_tests)
-
-other_number : (m n : ℕ) → (m == n) ≡ false → m ≢ n
-other_number m n h e = grind (arith, nat_tests)
-
 pub sign_positive : (z : ℤ) → z ≢ pos 0 → pos 0 <ℤ (sign z *ℤ z)
 sign_positive (pos zero) h = absurd (h refl)
-sign_positive (pos (suc n)) h = product_positive (pos 1) (pos (suc n)) (omega (arith, ints)) (omega (arith, ints))
+sign_positive (pos (suc n)) h = positive_product (pos 1) (pos (suc n)) (omega (arith, ints)) (omega (arith, ints))
 sign_positive (negsuc n) h = omega (arith, ints)
 
 module _ (x y : ℕ) (s : List (Option Line)) (w : IsTable s) (p : IsPivotable x y s) where
@@ -81,20 +75,20 @@ module _ (x y : ℕ) (s : List (Option Line)) (w : IsTable s) (p : IsPivotable x
       by None e = on (z == y) refl
         where
           on : (b : Bool) → (z == y) ≡ b → IsNextLine x y (reduced (solved_for p.row x y)) z None (get_or (next_from x y (reduced (solved_for p.row x y)) 0 s) z None)
-          on true f = inr (inl (same_number z y f, here None e ∙ ap (λ b. cond b (Some (reduced (solved_for p.row x y))) None) f))
-          on false f = inr (inr (inl (not_x e, other_number z y f, refl, here None e ∙ ap (λ b. cond b (Some (reduced (solved_for p.row x y))) None) f)))
+          on true f = inr (inl (same_from_test z y f, here None e ∙ ap (λ b. cond b (Some (reduced (solved_for p.row x y))) None) f))
+          on false f = inr (inr (inl (not_x e, other_from_test z y f, refl, here None e ∙ ap (λ b. cond b (Some (reduced (solved_for p.row x y))) None) f)))
       by (Some q) e = on (z == x) refl
         where
           on : (b : Bool) → (z == x) ≡ b → IsNextLine x y (reduced (solved_for p.row x y)) z (Some q) (get_or (next_from x y (reduced (solved_for p.row x y)) 0 s) z None)
-          on true f = inl (same_number z x f, here (Some q) e ∙ ap (λ b. cond b None (Some (reduced (with_put_in q y (reduced (solved_for p.row x y)))))) f)
+          on true f = inl (same_from_test z x f, here (Some q) e ∙ ap (λ b. cond b None (Some (reduced (with_put_in q y (reduced (solved_for p.row x y)))))) f)
           on false f = inr (inr (inr (
             q,
             reduced (with_put_in q y (reduced (solved_for p.row x y))),
-            other_number z x f,
+            other_from_test z x f,
             not_y q e,
             refl,
             here (Some q) e ∙ ap (λ b. cond b None (Some (reduced (with_put_in q y (reduced (solved_for p.row x y)))))) f,
-            reduced-is (with_put_in q y (reduced (solved_for p.row x y))) (product_positive q.d (reduced (solved_for p.row x y)).d (w z q e).positive solved.positive),
+            reduced-is (with_put_in q y (reduced (solved_for p.row x y))) (positive_product q.d (reduced (solved_for p.row x y)).d (w z q e).positive solved.positive),
           )))
 
   pub step-is : IsPivot x y s (step_lines x y s)
@@ -121,11 +115,6 @@ counted (infeasible x) rest = 0
 abbrev pub moves_left : ℕ → ℕ → List (Option Line) → ℕ
 moves_left columns zero s = 0
 moves_left columns (suc f) s = counted (moving columns s) (λ x y. moves_left columns f (step_lines x y s))
-
-slice_none : (s : List (Option Line)) (z : ℕ) → z < length s → get_or s z None ≡ None → slice_get s z ≡ Some None
-slice_none [] z h e = absurd (omega arith)
-slice_none (o ∷ s) zero h e = ap Some e
-slice_none (o ∷ s) (suc z) h e = slice_none s z (omega arith) e
 
 pub move-pivotable : (columns x y : ℕ) (s : List (Option Line)) → IsMove columns s x y → IsPivotable x y s
 move-pivotable columns x y s m =

@@ -15,13 +15,10 @@ use Rattle.strict_solver.proofs.Pivots.{IsTable, pivot-new, pivot-left, in_table
 use Rattle.strict_solver.proofs.Placing.{at_leaving, at_entering, at_others, somewhere, lines-length, line_there, lines-table}
 use Rattle.strict_solver.proofs.Pivoting.{some_place, solved_low, solved_line, put_line, combined_positive}
 use Rattle.strict_solver.proofs.Steps.{step_lines, step-is}
+use Rattle.strict_solver.proofs.Entries.{line_or}
 
 not_both : (o : Option Line) (l : Line) → o ≡ Some l → o ≡ None → ⊥
 not_both o l e f = cc
-
-line_or : Line → Option Line → Line
-line_or l None = l
-line_or l (Some k) = k
 
 both_some : (o : Option Line) (k l : Line) → o ≡ Some k → o ≡ Some l → k ≡ l
 unfolding line_or

@@ -14,6 +14,7 @@ use Rattle.strict_solver.proofs.Pivots.{IsTable}
 use Rattle.strict_solver.proofs.Values.{common, values_by, common-positive, length-values, value-none, values-hold, combination-none}
 use Rattle.strict_solver.proofs.Following.{AreLowest}
 use Rattle.strict_solver.proofs.Directions.{combination-one, IsDirection, direction_values, direction}
+use Rattle.strict_solver.proofs.Entries.{basic_or_not}
 
 pub cancel : (m p q : ℤ) → m ≢ pos 0 → m *ℤ p ≡ m *ℤ q → p ≡ q
 cancel m p q n e = back (m *ℤ p) (m *ℤ q) m p q n (ring (m ∷ p ∷ q ∷ []) (minus (times (var 0) (var 1)) (times (var 0) (var 2))) (times (var 0) (minus (var 1) (var 2))) refl) e
@@ -38,10 +39,6 @@ proportional-same r q pr pq lr lq same = reduced_same (record { d = q.d *ℤ r.d
     on : (k : ℤ) → pos 0 <ℤ k → r.d ≡ k → IsReduced (record { d = q.d *ℤ r.d; c = q.d *ℤ r.c; coefficients = map (λ z. q.d *ℤ z) r.coefficients }) q
     on (negsuc k) n e = absurd (omega (arith, ints))
     on (pos k) n e = record { k = k; factor = omega (arith, ints); same = same ∙ ap (λ t. map (λ z. t *ℤ z) (line_numbers q)) e; positive = pq; lowest = lq }
-
-basic_or_not : (o : Option Line) → ((r : Line) × (o ≡ Some r)) ⊎ (o ≡ None)
-basic_or_not None = inr refl
-basic_or_not (Some r) = inl (r, refl)
 
 as_none : (o p : Option Line) → is_none o ≡ is_none p → p ≡ None → o ≡ None
 as_none None p a b = refl

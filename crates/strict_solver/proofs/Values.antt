@@ -2,32 +2,18 @@
 --     common s      the product of all d of the rows
 --     values s      the value of each variable, times the scale common s
 -- No basis comes twice in the moving: bland is the step of this proof.
-use Rattle.std.proofs.Common.{◌≡◌, ℕ, zero, suc, ◌*◌, ◌<◌, ◌≤◌, ◌⊎◌, inl, inr, refl, sym, ap, ◌∙◌, subst, arith, ℤ, pos, negsuc, ◌+ℤ◌, ◌*ℤ◌, neg_ℤ, ◌<ℤ◌, ◌≤ℤ◌, int_lt, List, [], ◌∷◌, length, get_or, Some, None, Option}
+use Rattle.std.proofs.Common.{◌≡◌, ℕ, zero, suc, ◌<◌, ◌≤◌, ◌⊎◌, inl, inr, refl, sym, ap, ◌∙◌, subst, arith, ℤ, pos, negsuc, ◌+ℤ◌, ◌*ℤ◌, neg_ℤ, ◌<ℤ◌, ◌≤ℤ◌, int_lt, List, [], ◌∷◌, length, get_or, Some, None, Option}
 use Rattle.std.proofs.lemmas.Int.{ints}
-use borrow.Author.Differences.{product_is}
 use Rattle.ntfe_model.specs.Solver.{Line}
 use Rattle.ntfe_nums.proofs.Ring.{ring, product_zero, zero_product, one_product}
 use Rattle.ntfe_nums.proofs.Ring.Expression.{var, num, plus, times, neg}
 use Rattle.strict_solver.specs.Equations.{combination, Holds}
 use Rattle.strict_solver.proofs.Pivots.{IsTable}
 use Rattle.strict_solver.proofs.Moves.{IsMove, IsFirstSlack, first_slack-found, IsFirstEntering, entering-found, IsGone, int_lt-zero, int_lt-not_zero}
+use Rattle.strict_solver.proofs.Entries.{basic_or_not, line_or}
+use Rattle.ntfe_nums.proofs.Signs.{positive_product, product_not_negative}
 
 -- ---- signs of products
-some_product : (m n : ℕ) → 0 < suc m * suc n
-some_product m n = omega arith
-
-pub product_at_least : (a b : ℤ) → pos 0 ≤ℤ a → pos 0 ≤ℤ b → pos 0 ≤ℤ (a *ℤ b)
-product_at_least (pos m) (pos n) h i = omega (arith, ints)
-product_at_least (pos m) (negsuc n) h i = absurd (omega (arith, ints))
-product_at_least (negsuc m) b h i = absurd (omega (arith, ints))
-
-pub product_positive : (a b : ℤ) → pos 0 <ℤ a → pos 0 <ℤ b → pos 0 <ℤ (a *ℤ b)
-product_positive (pos (suc m)) (pos (suc n)) h i = let s = some_product m n in omega (arith, ints, product_is)
-product_positive (pos zero) b h i = absurd (omega (arith, ints))
-product_positive (pos (suc m)) (pos zero) h i = absurd (omega (arith, ints))
-product_positive (pos (suc m)) (negsuc n) h i = absurd (omega (arith, ints))
-product_positive (negsuc m) b h i = absurd (omega (arith, ints))
-
 neg_product : (a b : ℤ) → a *ℤ neg_ℤ b ≡ neg_ℤ (a *ℤ b)
 neg_product a b = ring (a ∷ b ∷ []) (times (var 0) (neg (var 1))) (neg (times (var 0) (var 1))) refl
 
@@ -35,17 +21,17 @@ neg_left : (a b : ℤ) → neg_ℤ a *ℤ b ≡ neg_ℤ (a *ℤ b)
 neg_left a b = ring (a ∷ b ∷ []) (times (neg (var 0)) (var 1)) (neg (times (var 0) (var 1))) refl
 
 pub product_negative : (a b : ℤ) → pos 0 <ℤ a → b <ℤ pos 0 → (a *ℤ b) <ℤ pos 0
-product_negative a b h i = let p = product_positive a (neg_ℤ b) h (omega (arith, ints)) in let e = neg_product a b in omega (arith, ints)
+product_negative a b h i = let p = positive_product a (neg_ℤ b) h (omega (arith, ints)) in let e = neg_product a b in omega (arith, ints)
 
 pub product_at_most : (a b : ℤ) → a ≤ℤ pos 0 → pos 0 ≤ℤ b → (a *ℤ b) ≤ℤ pos 0
-product_at_most a b h i = let p = product_at_least (neg_ℤ a) b (omega (arith, ints)) i in let e = neg_left a b in omega (arith, ints)
+product_at_most a b h i = let p = product_not_negative (neg_ℤ a) b (omega (arith, ints)) i in let e = neg_left a b in omega (arith, ints)
 
 by_sign : {P : Type 0} (z : ℤ) → (z <ℤ pos 0 → P) → (pos 0 ≤ℤ z → P) → P
 by_sign (pos n) f g = g (omega (arith, ints))
 by_sign (negsuc n) f g = f (omega (arith, ints))
 
 pub factor_negative : (a b : ℤ) → pos 0 <ℤ a → (a *ℤ b) <ℤ pos 0 → b <ℤ pos 0
-factor_negative a b h i = by_sign b (λ j. j) (λ j. let p = product_at_least a b (omega (arith, ints)) j in absurd (omega (arith, ints)))
+factor_negative a b h i = by_sign b (λ j. j) (λ j. let p = product_not_negative a b (omega (arith, ints)) j in absurd (omega (arith, ints)))
 
 pub factor_at_least : (a b : ℤ) → pos 0 <ℤ a → pos 0 ≤ℤ (a *ℤ b) → pos 0 ≤ℤ b
 factor_at_least a b h i = by_sign b (λ j. let p = product_negative a b h j in absurd (omega (arith, ints))) (λ j. j)
@@ -76,10 +62,6 @@ value-none m (None ∷ s) (suc z) e = value-none m s z e
 value-none m (Some r ∷ s) zero e = cc
 value-none m (Some r ∷ s) (suc z) e = value-none (m *ℤ r.d) s z e
 
-abbrev line_or : Line → Option Line → Line
-line_or r None = r
-line_or r (Some q) = q
-
 pub value-some : (m : ℤ) (s : List (Option Line)) (z : ℕ) (r : Line) → get_or s z None ≡ Some r → r.d *ℤ get_or (values_by m s) z (pos 0) ≡ (m *ℤ common s) *ℤ r.c
 value-some m [] z r e = cc
 value-some m (None ∷ s) zero r e = cc
@@ -94,7 +76,7 @@ value-some m (Some q ∷ s) (suc z) r e =
 pub common-positive : (s : List (Option Line)) → ((z : ℕ) (r : Line) → get_or s z None ≡ Some r → pos 0 <ℤ r.d) → pos 0 <ℤ common s
 common-positive [] h = omega (arith, ints)
 common-positive (None ∷ s) h = common-positive s (λ z r e. h (suc z) r e)
-common-positive (Some q ∷ s) h = product_positive q.d (common s) (h zero q refl) (common-positive s (λ z r e. h (suc z) r e))
+common-positive (Some q ∷ s) h = positive_product q.d (common s) (h zero q refl) (common-positive s (λ z r e. h (suc z) r e))
 
 pub combination-none : (es vs : List ℤ) → ((k : ℕ) → (get_or es k (pos 0) ≡ pos 0) ⊎ (get_or vs k (pos 0) ≡ pos 0)) → combination es vs ≡ pos 0
 combination-none [] vs h = refl
@@ -104,10 +86,6 @@ combination-none (e ∷ es) (v ∷ vs) h = (λ i. term (h zero) i +ℤ combinati
     term : (e ≡ pos 0) ⊎ (v ≡ pos 0) → e *ℤ v ≡ pos 0
     term (inl g) = ap (λ z. z *ℤ v) g ∙ zero_product v
     term (inr g) = ap (λ z. e *ℤ z) g ∙ product_zero e
-
-basic_or_not : (o : Option Line) → ((r : Line) × (o ≡ Some r)) ⊎ (o ≡ None)
-basic_or_not None = inr refl
-basic_or_not (Some r) = inl (r, refl)
 
 -- the values solve the rows
 pub values-hold : (m : ℤ) (s : List (Option Line)) → IsTable s → Holds (m *ℤ common s) (values_by m s) s
@@ -165,7 +143,7 @@ module _ (columns : ℕ) (a b : List (Option Line)) (wa : IsTable a) (wb : IsTab
       by (inl h) =
           factor_at_least h.0.d (get_or (values a) k (pos 0)) (wa k h.0 h.1).positive
           (let P : ℤ → Type 0 = λ z. pos 0 ≤ℤ z in
-          subst P (sym (value-some (pos 1) a k h.0 h.1)) (product_at_least (pos 1 *ℤ common a) h.0.c (weak _ positive) (int_lt-not_zero _ (at_leaving.first k h.0 c l h.1))))
+          subst P (sym (value-some (pos 1) a k h.0 h.1)) (product_not_negative (pos 1 *ℤ common a) h.0.c (weak _ positive) (int_lt-not_zero _ (at_leaving.first k h.0 c l h.1))))
         where
           weak : (z : ℤ) → pos 0 <ℤ z → pos 0 ≤ℤ z
           weak z g = omega (arith, ints)

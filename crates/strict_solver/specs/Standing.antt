@@ -101,17 +101,17 @@ pub record IsFirstBelow (b : Basis) (fs : List Fold) (j : ℕ) : Type 0 where
   pub below : constant_of b fold <ℤ pos 0
   pub before : (i : ℕ) (f : Fold) → i < j → slice_get fs i ≡ Some f → pos 0 ≤ℤ constant_of b f
 
--- the kept line has no height that is not basic
-abbrev pub LoadsNothing : Basis → Type 0
-LoadsNothing b = (j p : ℕ) → j < b.columns → slice_get b.places.items j ≡ Some (Column p) → number b.line.items p ≡ pos 0
+-- the fold has no height that is not basic
+abbrev pub LoadsNothing : Basis → Fold → Type 0
+LoadsNothing b f = (j p : ℕ) → j < b.columns → slice_get b.places.items j ≡ Some (Column p) → fold_sum (cell_at b.columns b.cells.items p) f ≡ pos 0
 
--- the first height that is not basic and that the kept line has
-pub record IsFirstHeight (b : Basis) (k : ℕ) : Type 0 where
+-- the first height that is not basic and that the fold has
+pub record IsFirstHeight (b : Basis) (f : Fold) (k : ℕ) : Type 0 where
   pub within : k < b.columns
   pub column : ℕ
   pub is : slice_get b.places.items k ≡ Some (Column column)
-  pub some : number b.line.items column ≢ pos 0
-  pub before : (j p : ℕ) → j < k → slice_get b.places.items j ≡ Some (Column p) → number b.line.items p ≡ pos 0
+  pub some : fold_sum (cell_at b.columns b.cells.items column) f ≢ pos 0
+  pub before : (j p : ℕ) → j < k → slice_get b.places.items j ≡ Some (Column p) → fold_sum (cell_at b.columns b.cells.items p) f ≡ pos 0
 
 -- no slack that is not basic has a positive coefficient in the kept line
 abbrev pub HasNoneEntering : Basis → Type 0

@@ -15,8 +15,6 @@ mod start;
 mod stem;
 mod stepping;
 mod tableau;
-#[cfg(test)]
-mod tests;
 
 pub use laws::{goes_on, moving_is_short, run_ends, run_is_short};
 pub use run::Solved;

@@ -279,6 +279,14 @@ impl Stem {
         &self.multipliers
     }
 
+    /// A law: known rows have heights. The call does nothing: its contract is the law.
+    pub fn has_heights(&self)
+        requires { (fs : List FoldOf) × (self.now.folds ≡ Some fs) }
+        ensures { (fs : List FoldOf) → self.now.folds ≡ Some fs → (heights : List ℤ) × IsFeasible self.now.columns (map (fold_row self.now.columns) fs) None heights }
+    {
+        let _ = &self.basis;
+    }
+
     /// Writes the heights of the stated run.
     pub fn write_heights(&mut self, heights: &mut [i64])
         requires known { (fs : List FoldOf) × (self.old.folds ≡ Some fs) }

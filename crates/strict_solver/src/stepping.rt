@@ -1,10 +1,11 @@
 //! The steps of a basis: one more row, and its moves.
-ghost use Rattle.std.specs.Prelude.{◌≡◌, ◌≢◌, ℕ, ◌+◌, ◌*◌, ◌^◌, ◌<◌, ◌≤◌, pos, ◌-◌, ◌<ℤ◌, ◌≤ℤ◌, unsigned_abs, length, slice_get, MatchOption, MatchBool, IfOk, Some};
+ghost use Rattle.std.specs.Prelude.{◌≡◌, ◌≢◌, ℕ, ◌+◌, ◌*◌, ◌^◌, ◌<◌, ◌≤◌, pos, ◌-◌, ◌<ℤ◌, ◌≤ℤ◌, unsigned_abs, List, [], ◌∷◌, ◌++◌, length, slice_get, MatchOption, MatchBool, IfOk, Some};
 ghost use Rattle.std.specs.Bool.{OnTrue};
+ghost use Rattle.ntfe_model.specs.declared.nogood.Fold.{Fold as FoldOf};
 ghost use Rattle.strict_solver.specs.declared.place.Place.TheVariants.{Row, Column};
 ghost use Rattle.strict_solver.specs.Rows.{number, AreNarrow, PlacesWithin};
 ghost use Rattle.strict_solver.specs.Starts.{IsFoldOver, AreFoldsOver};
-ghost use Rattle.strict_solver.specs.Standing.{cell_at, constant_of, IsSized, HasSlackRow, HasNoneBelow, IsFirstBelow, LoadsNothing, IsFirstHeight, HasNoneEntering, IsFirstToEnter, HasSameSizes, HasOtherLine, IsExchanged, StandsLoaded, StandsAtEnd};
+ghost use Rattle.strict_solver.specs.Standing.{fold_sum, cell_at, constant_of, IsSized, HasSlackRow, HasNoneBelow, IsFirstBelow, LoadsNothing, IsFirstHeight, HasNoneEntering, IsFirstToEnter, HasSameSizes, HasOtherLine, IsExchanged, StandsLoaded, StandsAtEnd};
 ghost use Rattle.strict_solver.specs.Endings.{HasEndedAs, StandsBefore};
 
 use crate::basis::{Basis, fold_of, put_in_rows, signed, write_fold_of_rows};
@@ -47,23 +48,6 @@ impl Basis {
         true
     }
 
-    /// The first height that is not basic and that the kept line has.
-    fn first_height(&self) -> Option<usize>
-        requires sized { IsSized self.now }
-        requires enough { self.now.columns ≤ length self.now.places.items }
-        requires within { PlacesWithin (self.now.columns + 2) self.now.places.items }
-        ensures { MatchOption result (LoadsNothing self.now) (IsFirstHeight self.now) }
-    {
-        for k in 0..self.columns {
-            if let Place::Column(p) = self.places[k] {
-                if self.line[p] != 0 {
-                    return Some(k);
-                }
-            }
-        }
-        None
-    }
-
     /// The first slack that is not basic and has a positive coefficient in the kept line.
     fn first_to_enter(&self) -> Option<usize>
         requires sized { IsSized self.now }
@@ -80,15 +64,53 @@ impl Basis {
         None
     }
 
-    /// The constant of a height's row.
-    fn height_of(&self, point: u32) -> i64
+    /// The number at a place of a height's row.
+    #[inline]
+    fn cell(&self, point: u32, place: usize) -> i64
         requires sized { IsSized self.now }
         requires from { 1 ≤ point }
         requires within { point ≤ self.now.columns }
-        ensures value { result ≡ cell_at self.now.columns self.now.cells.items 1 (point - 1) }
+        requires place { place < self.now.columns + 2 }
+        ensures value { result ≡ cell_at self.now.columns self.now.cells.items place (point - 1) }
         ensures size { unsigned_abs result < 2 ^ 30 }
     {
-        self.cells[(point as usize - 1) * (self.columns + 2) + 1]
+        self.cells[(point as usize - 1) * (self.columns + 2) + place]
+    }
+
+    /// The fold of the heights' rows at a place.
+    #[inline]
+    fn fold_at(&self, fold: &Fold, place: usize) -> i64
+        requires sized { IsSized self.now }
+        requires fold { IsFoldOver self.now.columns fold.now }
+        requires place { place < self.now.columns + 2 }
+        ensures value { result ≡ fold_sum (cell_at self.now.columns self.now.cells.items place) fold.now }
+        ensures size { unsigned_abs result < 2 ^ 62 }
+    {
+        fold_of(
+            fold,
+            self.cell(fold.a, place),
+            self.cell(fold.b, place),
+            self.cell(fold.c, place),
+            self.cell(fold.d, place),
+        )
+    }
+
+    /// The first height that is not basic and that the fold has. The row of the fold's slack is not written for it.
+    fn first_height(&self, fold: &Fold) -> Option<usize>
+        requires sized { IsSized self.now }
+        requires fold { IsFoldOver self.now.columns fold.now }
+        requires enough { self.now.columns ≤ length self.now.places.items }
+        requires within { PlacesWithin (self.now.columns + 2) self.now.places.items }
+        ensures { MatchOption result (LoadsNothing self.now fold.now) (IsFirstHeight self.now fold.now) }
+    {
+        for k in 0..self.columns {
+            if let Place::Column(p) = self.places[k] {
+                if self.fold_at(fold, p) != 0 {
+                    return Some(k);
+                }
+            }
+        }
+        None
     }
 
     /// Whether the slack of the fold is negative.
@@ -97,14 +119,7 @@ impl Basis {
         requires fold { IsFoldOver self.now.columns fold.now }
         ensures { MatchBool result (constant_of self.now fold.now <ℤ pos 0) (pos 0 ≤ℤ constant_of self.now fold.now) }
     {
-        let value = fold_of(
-            fold,
-            self.height_of(fold.a),
-            self.height_of(fold.b),
-            self.height_of(fold.c),
-            self.height_of(fold.d),
-        );
-        value < self.denominator
+        self.fold_at(fold, 1) < self.denominator
     }
 
     /// The first of the folds whose slack is negative.
@@ -173,6 +188,45 @@ impl Basis {
         Ending::Unknown
     }
 
+    /// Loads the first height of one more row, whose slack leaves for it: that is the end of the run.
+    fn load(&mut self, fold: &Fold, height: usize) -> Result<Ending, AllocError>
+        requires sized { IsSized self.old }
+        requires fold { IsFoldOver self.old.columns fold.now }
+        requires stands { (fs : List FoldOf) × StandsAtEnd self.old fs }
+        requires first { IsFirstHeight self.old fold.now height }
+        ensures sizes { HasSameSizes self.old self.new }
+        ensures answer { IfOk result (λ e. (fs : List FoldOf) → StandsAtEnd self.old fs → HasEndedAs self.new (fs ++ fold.now ∷ []) e) }
+    {
+        if !self.write_line(fold) {
+            return Ok(Ending::Unknown);
+        }
+        let slack = self.places.len();
+        self.places.push(Place::Row(0))?;
+        if self.exchange(slack, height) {
+            Ok(Ending::Feasible)
+        } else {
+            Ok(Ending::Unknown)
+        }
+    }
+
+    /// Goes on with one more row that has no height to load. It moves only where that row's slack is negative.
+    fn go_on_loaded(&mut self, folds: &[Fold], fold: &Fold) -> Result<Ending, AllocError>
+        requires sized { IsSized self.old }
+        requires folds { AreFoldsOver self.old.columns folds.now }
+        requires stands { StandsBefore self.old folds.now fold.now }
+        requires none { LoadsNothing self.old fold.now }
+        ensures sizes { HasSameSizes self.old self.new }
+        ensures answer { IfOk result (λ e. HasEndedAs self.new folds.now e) }
+    {
+        let is_below = self.is_below(fold);
+        self.places.push(Place::Row(0))?;
+        if is_below {
+            Ok(self.settle(folds))
+        } else {
+            Ok(Ending::Feasible)
+        }
+    }
+
     /// Goes on with one more row: it stands at the end of the run on the folds but the last, and goes on to the end of that on
     /// all.
     pub fn go_on(&mut self, folds: &[Fold], fold: &Fold) -> Result<Ending, AllocError>
@@ -182,19 +236,9 @@ impl Basis {
         ensures sizes { HasSameSizes self.old self.new }
         ensures answer { IfOk result (λ e. HasEndedAs self.new folds.now e) }
     {
-        if !self.write_line(fold) {
-            return Ok(Ending::Unknown);
-        }
-        let slack = self.places.len();
-        let height = self.first_height();
-        self.places.push(Place::Row(0))?;
-        let Some(height) = height else {
-            return Ok(self.settle(folds));
-        };
-        if self.exchange(slack, height) {
-            Ok(Ending::Feasible)
-        } else {
-            Ok(Ending::Unknown)
+        match self.first_height(fold) {
+            Some(height) => self.load(fold, height),
+            None => self.go_on_loaded(folds, fold),
         }
     }
 }

@@ -1,7 +1,8 @@
 //! `demo`: how many classes a product of two polygons has, up to a limit.
 ghost use Rattle.std.specs.Prelude.{◌≡◌, ◌≤◌, ℕ, List, Option, IfOk};
 ghost use Rattle.ntfe_run.specs.Commands.{demo_room};
-ghost use Rattle.ntfe_run.specs.Demo.{IsDemoOf, demo_listed};
+ghost use Rattle.ntfe_run.specs.Demo.{IsDemoOf};
+ghost use Rattle.ntfe_run.specs.Dues.{demo_listed};
 ghost use Rattle.ntfe_run.specs.Statuses.{TellsCount};
 ghost use Rattle.ntfe_run.specs.Tasks.{IsTaskOf};
 

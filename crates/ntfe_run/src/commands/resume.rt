@@ -3,7 +3,8 @@ ghost use Rattle.std.specs.Prelude.{◌≡◌, ◌<◌, ◌≤◌, ◌+◌, ◌^
 ghost use Rattle.ntfe_model.specs.Earlier.{IsKeptOf};
 ghost use Rattle.class_text.specs.Earlier.{kept_of};
 ghost use Rattle.ntfe_run.specs.Commands.{resume_room, form_of_options, begun_limit};
-ghost use Rattle.ntfe_run.specs.Earlier.{layout, IsBegunInput, IsBegunRefusal, IsBegunStop, IsEarlierStop};
+ghost use Rattle.ntfe_run.specs.Earlier.{layout, IsBegunInput, IsBegunRefusal};
+ghost use Rattle.ntfe_run.specs.Stops.{IsBegunStop, IsEarlierStop};
 ghost use Rattle.ntfe_run.specs.Statuses.{IsReadStop, IsBegunRead, begun_input};
 ghost use Rattle.ntfe_run.specs.Tasks.{IsTaskOf};
 

@@ -18,7 +18,7 @@ use std::alloc::{AllocError, Global};
 use strict_solver::Tableau;
 
 /// The pair with its points and two-faces.
-fn geometry(alloc: Global, text: &str) -> Result<Geometry, AllocError> {
+pub fn geometry(alloc: Global, text: &str) -> Result<Geometry, AllocError> {
     let bytes = text.as_bytes();
     if bytes.len() > 65536 {
         return Err(AllocError);
@@ -183,7 +183,7 @@ fn square_fold(edge: (u32, u32), thirds: (u32, u32)) -> Fold {
 }
 
 /// Items of three two-faces of the product of two triangles, with these multiples of their folds.
-fn three_squares(alloc: Global, times: &[i64]) -> Result<Nogood, AllocError> {
+pub fn three_squares(alloc: Global, times: &[i64]) -> Result<Nogood, AllocError> {
     let squares = [
         (2, 0, (11, 14), (10, 15)),
         (3, 0, (10, 12), (8, 14)),

@@ -7,14 +7,14 @@ use std::alloc::{AllocError, Global};
 
 /// What a run wrote, and how it ended.
 #[derive(Drop)]
-struct Outcome {
-    code: u8,
-    out: MemorySink,
-    err: MemorySink,
+pub struct Outcome {
+    pub code: u8,
+    pub out: MemorySink,
+    pub err: MemorySink,
 }
 
 /// The words as the program is given them.
-fn owned(alloc: Global, words: &[&str]) -> Result<Vec<String>, AllocError> {
+pub fn owned(alloc: Global, words: &[&str]) -> Result<Vec<String>, AllocError> {
     let mut all = Vec::new(alloc);
     for word in words {
         all.push(String::from_str(alloc, word)?)?;
@@ -35,7 +35,12 @@ fn code_of<S: Source, K: Sink, E: Sink>(
 }
 
 /// Runs on text with ample room; `failing` is the number of the call of `out` that fails.
-fn run_on(alloc: Global, words: &[&str], text: &str, failing: u64) -> Result<Outcome, AllocError> {
+pub fn run_on(
+    alloc: Global,
+    words: &[&str],
+    text: &str,
+    failing: u64,
+) -> Result<Outcome, AllocError> {
     let mut source = SliceSource {
         bytes: text.as_bytes(),
     };
@@ -45,15 +50,22 @@ fn run_on(alloc: Global, words: &[&str], text: &str, failing: u64) -> Result<Out
     Ok(Outcome { code, out, err })
 }
 
-/// The exit status of a run of `faces` on the simplex, where the source gives a byte at a time and its call of this number
-/// fails, with the number of bytes taken.
-fn faces_code(alloc: Global, failing: u64) -> Result<(u8, usize), AllocError> {
+/// Runs `classes` on the simplex, where the source gives a byte at a time and its call of this number fails.
+fn run_bytewise(alloc: Global, failing: u64) -> Result<Outcome, AllocError> {
     let bytes = Vec::from_slice(alloc, SIMPLEX.as_bytes())?;
     let mut source = MemorySource::new(bytes, 1, vec![in alloc; failing]?);
     let mut out = MemorySink::new(alloc, 9999, Vec::new(alloc))?;
     let mut err = MemorySink::new(alloc, 999, Vec::new(alloc))?;
-    let code = code_of(alloc, &["faces"], &mut source, &mut out, &mut err)?;
-    Ok((code, out.bytes().len()))
+    let code = code_of(alloc, &["classes"], &mut source, &mut out, &mut err)?;
+    Ok(Outcome { code, out, err })
+}
+
+/// The text of a run: its first line, the pair, and what stands behind it.
+fn text_of(alloc: Global, pair: &str, behind: &str) -> Result<String, AllocError> {
+    let mut text = String::from_str(alloc, "ntfe 1\n")?;
+    text.push_str(pair)?;
+    text.push_str(behind)?;
+    Ok(text)
 }
 
 #[test]
@@ -112,22 +124,37 @@ fn a_sink_that_fails_at_its_third_call(rt: HostRuntime) -> Result<(), AllocError
 
 #[test]
 fn a_source_of_single_bytes(rt: HostRuntime) -> Result<(), AllocError> {
-    assert!(rt; faces_code(rt.alloc(), 9999)? == (0, 212));
-    assert!(rt; faces_code(rt.alloc(), 5)? == (7, 0));
+    let whole = text_of(
+        rt.alloc(),
+        SIMPLEX,
+        "push up\nclass 0 0 0 0 0 0 0 0 0 0\nheights 0 0 0 0 0\nend 1\n",
+    )?;
+    let all = run_bytewise(rt.alloc(), 9999)?;
+    assert!(rt; all.code == 0);
+    assert!(rt; all.out.bytes() == whole.as_bytes());
+    Ok(())
+}
+
+#[test]
+fn a_source_that_fails_at_its_fifth_call(rt: HostRuntime) -> Result<(), AllocError> {
+    let failed = run_bytewise(rt.alloc(), 5)?;
+    assert!(rt; failed.code == 7);
+    assert!(rt; failed.out.bytes().is_empty());
     Ok(())
 }
 
 #[test]
 fn numbers_that_are_too_wide(rt: HostRuntime) -> Result<(), AllocError> {
+    let head = text_of(rt.alloc(), SQUARES, "push up\n")?;
     let stopped = run_on(rt.alloc(), &["classes", "--width=1"], SQUARES, 9999)?;
     assert!(rt; stopped.code == 4);
+    assert!(rt; stopped.out.bytes() == head.as_bytes());
     assert!(rt;
         stopped
             .err
             .bytes()
             .starts_with(b"ntfe: overflow at step 0 with -2 in choice 0 0 ")
     );
-    assert!(rt; stopped.out.bytes().ends_with(b"1 0 1 0\npush up\n"));
     Ok(())
 }
 

@@ -6,10 +6,10 @@ use Rattle.lattice_points.specs.Boxes.{IsWithin}
 use Rattle.lattice_points.proofs.CutLemmas.{divides, short_back, next_fits, opposite_is, quotient_from, quotient_short, product_fits, reach_fits, reach_low, reach_high, none_from, all_up_to, cut_high}
 use Rattle.lattice_points.proofs.column.cut_above.Goals as goal
 
-wide : (z : ℤ) → unsigned_abs z ≤ 1023 → unsigned_abs z ≤ 2 ^ 23
+wide : (z : ℤ) → unsigned_abs z ≤ 2 ^ 21 → unsigned_abs z ≤ 2 ^ 33
 wide z h = omega arith
 
-longer : (z : ℤ) → unsigned_abs z ≤ 2 ^ 23 → unsigned_abs z ≤ 2 ^ 24
+longer : (z : ℤ) → unsigned_abs z ≤ 2 ^ 33 → unsigned_abs z ≤ 2 ^ 34
 longer z h = omega arith
 
 turned : (s : ℤ) → s <ℤ pos 0 → pos 0 <ℤ (pos 0 -ℤ s)
@@ -55,7 +55,7 @@ returns-then-level-slope-ltminus1-2-clause-size c =
     let q = c.div_euclid-high.result in
     let e = quotient_from q a.level (to_z w64 (of_z w64 (pos 0 -ℤ to_z w64 (of_z w64 s)))) (pos 0 -ℤ s) c.requires.level.0 (opposite_is s (wide s c.requires.slope.0)) c.div_euclid-high.ensures in
     let k = quotient_short q a.level (pos 0 -ℤ s) (turned s c.requires.falling) c.requires.level.0 e in
-    let P : ℤ → Type 0 = λ y. unsigned_abs y ≤ 2 ^ 23 in
+    let P : ℤ → Type 0 = λ y. unsigned_abs y ≤ 2 ^ 33 in
     (subst P (sym (short_back a.left.low (longer a.left.low c.requires.left.0))) c.requires.left.0, (subst P (sym (short_back q (longer q k))) k, tt))
 
 pub returns-clause-value : goal.returns-clause-value

@@ -42,7 +42,7 @@ returns-then-level-slope-ltminus1-2-clause-value c = λ x.
     let e = quotient_from q a.level (to_z w64 (of_z w64 s)) s c.requires.level.0 (to_z-of_z c.ranges.slope) c.div_euclid-low.ensures in
     let t = reach_low a.level s a.left.low c.requires.level.0 c.requires.slope.0 c.requires.left.0 c.if-level-slope-ltminus1-2.true in
     let low = opposite_is q (quotient_short q a.level s p c.requires.level.0 e) ∙ ap (λ y. pos 0 -ℤ y) e in
-    let high = short_back a.left.high (let h = c.requires.left.1.0 in let k : unsigned_abs a.left.high ≤ 2 ^ 24 = omega arith in k) in
+    let high = short_back a.left.high (let h = c.requires.left.1.0 in let k : unsigned_abs a.left.high ≤ 2 ^ 34 = omega arith in k) in
     let P : Extent → Type 0 = λ w. IsWithin w x ↔ (IsWithin a.left x × (negsuc 0 ≤ℤ (a.level +ℤ s *ℤ x))) in
     subst P (sym (λ i. record { low = low i; high = high i })) (cut_low s a.level a.left.low a.left.high p t x)
 
@@ -55,9 +55,9 @@ returns-then-level-slope-ltminus1-2-clause-size c =
     let e = quotient_from q a.level (to_z w64 (of_z w64 s)) s c.requires.level.0 (to_z-of_z c.ranges.slope) c.div_euclid-low.ensures in
     let k = quotient_short q a.level s p c.requires.level.0 e in
     let low = opposite_is q k in
-    let P : ℤ → Type 0 = λ y. unsigned_abs y ≤ 2 ^ 23 in (
-      subst P (sym low) (let r : unsigned_abs (pos 0 -ℤ q) ≤ 2 ^ 23 = omega (arith, ints) in r),
-      (subst P (sym (short_back a.left.high (let h = c.requires.left.1.0 in let k : unsigned_abs a.left.high ≤ 2 ^ 24 = omega arith in k))) c.requires.left.1.0, tt),
+    let P : ℤ → Type 0 = λ y. unsigned_abs y ≤ 2 ^ 33 in (
+      subst P (sym low) (let r : unsigned_abs (pos 0 -ℤ q) ≤ 2 ^ 33 = omega (arith, ints) in r),
+      (subst P (sym (short_back a.left.high (let h = c.requires.left.1.0 in let k : unsigned_abs a.left.high ≤ 2 ^ 34 = omega arith in k))) c.requires.left.1.0, tt),
     )
 
 pub returns-clause-value : goal.returns-clause-value

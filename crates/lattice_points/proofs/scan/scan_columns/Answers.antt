@@ -8,7 +8,7 @@ use Rattle.lattice_points.specs.Lines.{place, IsOpen}
 use Rattle.lattice_points.specs.Scans.{IsOnLine, IsInColumn, Adds}
 use Rattle.lattice_points.proofs.CutLemmas.{end_fits, not_past}
 use Rattle.lattice_points.proofs.BoxLemmas.{first_small, second_small, third_small, fourth_small, extent_size, within_size, inside_column}
-use Rattle.lattice_points.proofs.ShadowLemmas.{narrowed_span}
+use Rattle.lattice_points.proofs.InequalityLemmas.{narrowed_span}
 use Rattle.lattice_points.proofs.ScanLemmas.{third_less, sweep_start, sweep_step, sweep_end, sweep_room}
 use Rattle.lattice_points.proofs.scan.scan_columns.Goals as goal
 

@@ -1,10 +1,10 @@
 use Rattle.std.proofs.Common.{sym, to_z-of_z}
 use Rattle.lattice_points.proofs.BoxLemmas.{first_small, second_small, third_small, extent_size, within_size}
-use Rattle.lattice_points.proofs.ShadowLemmas.{third_within, size_of}
+use Rattle.lattice_points.proofs.InequalityLemmas.{third_within, size_of}
 use Rattle.lattice_points.proofs.scan.scan_line.Goals as goal
 
-pub third_extent-extent-requires-clause-shadows : goal.third_extent-extent-requires-clause-shadows
-third_extent-extent-requires-clause-shadows c = (c.args.pair.now.dual, c.requires.shadows)
+pub third_extent-extent-requires-clause-sums : goal.third_extent-extent-requires-clause-sums
+third_extent-extent-requires-clause-sums c = (c.args.pair.now.dual, c.requires.sums)
 
 pub third_extent-extent-requires-clause-size : goal.third_extent-extent-requires-clause-size
 third_extent-extent-requires-clause-size c =
@@ -20,4 +20,4 @@ third_extent-extent-requires-clause-extent c = extent_size c.args.bounds.now.x3 
 pub scan_columns-requires-clause-all : goal.scan_columns-requires-clause-all
 scan_columns-requires-clause-all c = λ v k a.
     let p = c.args.pair.now in
-    c.third_extent-extent.ensures.inside p.dual v c.requires.shadows k.hull a.0 a.1 (third_within p c.args.bounds.now v c.requires.bounds k)
+    c.third_extent-extent.ensures.inside p.dual v c.requires.sums k.hull a (third_within p c.args.bounds.now v c.requires.bounds k)

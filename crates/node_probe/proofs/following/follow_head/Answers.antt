@@ -55,13 +55,13 @@ returns-then-numbers-faces-clause-finding c = λ width.
     let e = ap length (c.as_slice-numbers.ensures ∙ c.key.view_is) in
     let f = ap length c.faces.ensures.value in
     let v = gone_folds c.follow.new.self rs c.in_ok-follow.field-0 c.in-Feasible.is c.in_ok-follow.ensures.followed in
-    let h = written c.follow.new.self.columns (length g.points) rs _ (c.in_ok-follow.ensures.columns ∙ c.requires.columns) (c.write_heights.ensures.heights v.0 rs v.1 v.2) in (
+    let h = written c.follow.new.self.columns (length g.points) rs _ (c.in_ok-follow.ensures.columns ∙ c.requires.columns) (c.has_heights.ensures v.0 rs v.1 v.2).1 in (
       (left_over (length c.as_slice-numbers.result.now) (length c.faces.result.now) (length key) (length g.faces) e f c.requires.key.at_most c.if-numbers-faces.true, c.requires.within.1),
       open_not_refuted g c.requires.shape key rs c.args.rows.now.faces.items c.requires.rows width _ h,
     )
 
-pub returns-else-numbers-faces-clause-finding : goal.returns-else-numbers-faces-clause-finding
-returns-else-numbers-faces-clause-finding c = λ width.
+pub returns-in_ok-heights-in-Feasible-clause-finding : goal.returns-in_ok-heights-in-Feasible-clause-finding
+returns-in_ok-heights-in-Feasible-clause-finding c = λ width.
     let g = c.args.geometry.now in
     let key = c.args.key.now in
     let rs = c.args.rows.now.folds.items in

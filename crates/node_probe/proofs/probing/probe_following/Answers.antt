@@ -1,7 +1,7 @@
 use Rattle.std.proofs.Common.{arith}
 use Rattle.node_probe.proofs.KeyLemmas.{match_some}
 use Rattle.node_probe.proofs.FindingLemmas.{key_few}
-use Rattle.node_probe.proofs.FollowedLemmas.{finding_true}
+use Rattle.node_probe.proofs.FollowedLemmas.{finding_true, judged_out, found_out}
 use Rattle.node_probe.proofs.probing.probe_following.Goals as goal
 
 pub head_rows-requires-clause-few : goal.head_rows-requires-clause-few
@@ -10,3 +10,11 @@ head_rows-requires-clause-few g c = let k = key_few c.args.geometry.now c.points
 pub returns-in-Some-clause-finding : goal.returns-in-Some-clause-finding
 returns-in-Some-clause-finding g c =
     finding_true c.args.geometry.now c.args.width c.args.key.now c.args.set.now c.in-Some.finding (match_some _ _ c.in_ok-finding.field-0 c.in-Some.finding c.in_ok-finding.ensures.finding c.in-Some.is c.args.width)
+
+pub returns-in-Some-clause-pruned : goal.returns-in-Some-clause-pruned
+returns-in-Some-clause-pruned g c =
+    found_out c.args.geometry.now c.args.width c.args.key.now c.args.set.now c.in-Some.finding c.points.ensures.shape
+    (match_some _ _ c.in_ok-finding.field-0 c.in-Some.finding c.in_ok-finding.ensures.finding c.in-Some.is c.args.width)
+
+pub returns-clause-pruned : goal.returns-clause-pruned
+returns-clause-pruned g c = judged_out c.args.geometry.now c.args.width c.args.key.now c.in_ok-finding-2.finding c.points.ensures.shape c.in_ok-finding-2.ensures.judged

@@ -2,7 +2,7 @@ use Rattle.std.proofs.Common.{◌≡◌, ◌∙◌, ap, map, None, sym, subst, a
 use Rattle.std.specs.Prelude.{string_bytes}
 use Rattle.ntfe_model.specs.Shapes.{Shape}
 use Rattle.steal_workers.specs.Listings.{Listed, HasServed}
-use Rattle.ntfe_run.specs.Demo.{demo_listed}
+use Rattle.ntfe_run.specs.Dues.{demo_listed}
 use Rattle.ntfe_run.specs.Statuses.{IsDemoEnd}
 use Rattle.ntfe_run.specs.Tasks.{Opened}
 use Rattle.ntfe_run.proofs.DemoEnds.{told_end}

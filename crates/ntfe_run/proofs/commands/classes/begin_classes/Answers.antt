@@ -17,5 +17,5 @@ returns-in-Ok-clause-task g c =
       taken = record { before = g.K.Sink.taken c.args.out.now; after = g.K.Sink.taken c.begin_list.new.out };
       write_faults = record { before = g.K.Sink.faults c.args.out.now; after = g.K.Sink.faults c.begin_list.new.out };
     } in
-    list_task (classes_room o) shape opened (due_of o shape nothing_kept) (λ taken faults. c.in-Ok.ensures.ok) (λ taken faults status h. list_answer o shape taken faults status h) c.begin_list.result
+    list_task (classes_room o) shape opened (due_of o shape nothing_kept) (λ taken faults. c.in-Ok.ensures.ok) (λ taken faults status h. list_answer o shape c.in-Ok.ensures.ok.2.shape taken faults status h) c.begin_list.result
     (subst (λ (k : Kept). IsListTask (due_of o shape k) opened.taken opened.write_faults c.begin_list.result) c.nothing_kept.ensures c.begin_list.ensures)

@@ -23,4 +23,4 @@ returns-in-Ok-clause-task g c =
       taken = record { before = g.K.Sink.taken c.args.out.now; after = g.K.Sink.taken c.begin_list.new.out };
       write_faults = record { before = g.K.Sink.faults c.args.out.now; after = g.K.Sink.faults c.begin_list.new.out };
     } in
-    list_task (resume_room o) input opened (due_of o c.in-Ok.begun.geometry (kept_of c.in-Ok.begun.earlier)) (λ taken faults. c.in-Ok.ensures.ok) (λ taken faults status h. rest_answer o input taken faults status h) c.begin_list.result c.begin_list.ensures
+    list_task (resume_room o) input opened (due_of o c.in-Ok.begun.geometry (kept_of c.in-Ok.begun.earlier)) (λ taken faults. c.in-Ok.ensures.ok) (λ taken faults status h. rest_answer o input c.in-Ok.ensures.ok.2.holds.0.shape taken faults status h) c.begin_list.result c.begin_list.ensures

@@ -13,7 +13,7 @@ pub returns-then-is_of : goal.returns-then-is_of
 returns-then-is_of c =
     let n : HasSegment c.args.self.now (c.args.previous.now.number + 1) = is_not_last c.args.self.now c.args.previous.now c.ended.result c.requires.patch c.if-ended.false c.ended.ensures.next in
     let same = c.if-is_of.ensures.0 refl in
-    ((same.0 ∙ ap (λ (k : ℕ). k + 1) c.number-number.ensures.value, same.1 ∙ c.self.view_is), n)
+    ((same.0 ∙ ap (λ (k : ℕ). k + 1) c.number-number.ensures.value, same.1 ∙ c.chart.ensures), n)
 
 pub returns : goal.returns
 returns c =
@@ -21,5 +21,5 @@ returns c =
     let made = c.in_ok-after.ensures in (
       (made.0, made.1 ∙ c.requires.patch),
       n,
-      λ i. (let f : false ≡ true = c.if-is_of.ensures.1 (i.0 ∙ ap (λ (k : ℕ). k + 1) (sym c.number-number.ensures.value), i.1 ∙ sym c.self.view_is) in absurd cc),
+      λ i. (let f : false ≡ true = c.if-is_of.ensures.1 (i.0 ∙ ap (λ (k : ℕ). k + 1) (sym c.number-number.ensures.value), i.1 ∙ sym c.chart.ensures) in absurd cc),
     )

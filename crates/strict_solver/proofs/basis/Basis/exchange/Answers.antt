@@ -6,9 +6,9 @@ use Rattle.strict_solver.specs.Rows.{number}
 use Rattle.strict_solver.proofs.Parts.{lent_back}
 use Rattle.strict_solver.proofs.Elimination.{at_place, from_place, same_place}
 use Rattle.strict_solver.proofs.Words.{word30}
-use Rattle.strict_solver.proofs.Standing.{sign_positive}
 use Rattle.strict_solver.proofs.Exchanging.{narrow_after, put_again}
 use Rattle.strict_solver.proofs.basis.Basis.exchange.Goals as goal
+use Rattle.strict_solver.proofs.Steps.{sign_positive}
 
 same_column : (m n : ℕ) → Column m ≡ Column n → m ≡ n
 same_column m n e = cc

@@ -4,12 +4,14 @@ use Rattle.ntfe_model.specs.Solver.{Line, coefficient_at}
 use Rattle.strict_solver.specs.declared.place.Place.TheVariants.{Row, Column}
 use Rattle.strict_solver.specs.Rows.{number, line_in}
 use Rattle.strict_solver.specs.Grids.{row_at, lines_of}
-use Rattle.strict_solver.proofs.Rows.{zero_word, word_zero}
+use Rattle.strict_solver.proofs.Rows.{zero_word}
 use Rattle.strict_solver.proofs.Elimination.{at_place}
 use Rattle.strict_solver.proofs.Placing.{lines-length, coefficient_there}
-use Rattle.strict_solver.proofs.Searches.{slack_test, slack_line, slack_other, first_slack_at, first_slack_none, below_next, zero_fails, other_passes, height_basic}
+use Rattle.strict_solver.proofs.Searches.{slack_test, slack_line, slack_other, first_slack_at, first_slack_none, below_next, height_basic}
 use Rattle.strict_solver.proofs.grid.Grid.first_with.Goals as goal
 use Rattle.strict_solver.proofs.grid.Grid.first_with.Goals.{in-Row+else-cell-ne0, in_default-index}
+use Rattle.ntfe_nums.proofs.Signs.{bits_of_zero}
+use Rattle.ntfe_nums.proofs.Comparisons.{zero_fails, other_passes}
 
 abbrev test : ℕ → Line → Bool
 test height r = not (int_eq (coefficient_at r height) (pos 0))
@@ -78,7 +80,7 @@ returns-then-cell-ne0 c =
     sym (first_slack_at g.columns (test height) (lines_of g) x
     (slack_line g.columns (test height) s places cells x c.in-Row.r (omega arith) is
     ∙ other_passes (coefficient_at (line_in places row) height)
-    (λ e. c.if-cell-ne0.true (ap (of_z w64) c.cell.ensures ∙ word_zero (number row c.in-Column.p) (sym (coefficient_there places row height (Column c.in-Column.p) column) ∙ e))))
+    (λ e. c.if-cell-ne0.true (ap (of_z w64) c.cell.ensures ∙ bits_of_zero (number row c.in-Column.p) (sym (coefficient_there places row height (Column c.in-Column.p) column) ∙ e))))
     c.loop-x.invariant (omega arith))
 
 pub returns : goal.returns
