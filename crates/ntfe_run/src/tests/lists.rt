@@ -16,7 +16,7 @@ fn checksum(bytes: &[u8]) -> u64 {
 
 /// The number of bytes that a run on the product of two triangles writes, and their checksum; nothing where it is not done.
 fn listed(alloc: Global, words: &[&str]) -> Result<Option<(usize, u64)>, AllocError> {
-    let all = run_on(alloc, words, TT, 99999)?;
+    let all = run_on(alloc, words, TT)?;
     if all.code != 0 {
         return Ok(None);
     }

@@ -3,12 +3,11 @@ ghost use Rattle.std.specs.Prelude.{◌≡◌, IfOk};
 ghost use Rattle.steal_workers.specs.Forms.{IsFormOf};
 
 use crate::commands::classes::text_form;
-use crate::run;
 use crate::tests::layers::geometry;
 use crate::tests::pairs::TT;
-use crate::tests::runs::owned;
+use crate::tests::refusals::{GOOD_DAY, ended, ended_behind};
 use class_text::TextForm;
-use io_edge::{Gate, MemorySink, OpenGate, SliceSource};
+use io_edge::{Gate, MemorySink, OpenGate};
 use ntfe_model::{Geometry, Key, List, Push};
 use ntfe_words::Options;
 use std::alloc::{AllocError, Global};
@@ -261,44 +260,30 @@ fn writes<R: Threads + Wait + Sync, G: Gate + Sync>(
     text: &[u8],
     gate: &G,
 ) -> Result<bool, AllocError> {
-    let words = owned(alloc, words)?;
-    let mut source = SliceSource {
-        bytes: TT.as_bytes(),
-    };
-    let mut out = MemorySink::new(alloc, 100000, Vec::new(alloc))?;
-    let mut err = MemorySink::new(alloc, 1000, Vec::new(alloc))?;
-    let words = words.as_slice();
-    let status = run(rt, alloc, words, &mut source, &mut out, &mut err, gate);
-    Ok(status.code() == 0 && out.bytes() == text)
+    let all = ended_behind(rt, alloc, words, TT.as_bytes(), &GOOD_DAY, gate)?;
+    Ok(all.code == 0 && all.out.bytes() == text)
 }
 
-/// The list on one thread.
-fn listed_alone<R: Threads + Wait + Sync>(rt: &R, alloc: Global) -> Result<MemorySink, AllocError> {
-    let words = owned(alloc, &["classes"])?;
-    let mut source = SliceSource {
-        bytes: TT.as_bytes(),
-    };
-    let mut out = MemorySink::new(alloc, 100000, Vec::new(alloc))?;
-    let mut err = MemorySink::new(alloc, 1000, Vec::new(alloc))?;
-    let words = words.as_slice();
-    let _status = run(rt, alloc, words, &mut source, &mut out, &mut err, &OpenGate);
-    Ok(out)
-}
-
-#[test]
-fn the_same_bytes_with_any_number_of_workers(rt: HostRuntime) -> Result<(), AllocError> {
-    let alloc = rt.alloc();
-    let alone = listed_alone(&rt, alloc)?;
-    let text = alone.bytes();
-    assert!(rt; text.ends_with(b"\nend 102\n"));
-    assert!(rt; writes(&rt, alloc, &["classes", "--workers", "2"], text, &OpenGate)?);
-    assert!(rt; writes(&rt, alloc, &["classes", "--workers", "8"], text, &OpenGate)?);
+/// Whether two workers that wait for each other write this text.
+fn meets<R: Threads + Wait + Sync>(rt: &R, alloc: Global, text: &[u8]) -> Result<bool, AllocError> {
     let gate = Meeting {
         first: Mark::new(),
         second: Mark::new(),
         gave_up: Mark::new(),
     };
-    assert!(rt; writes(&rt, alloc, &["classes", "--workers", "2"], text, &gate)?);
-    assert!(rt; gate.first.has_come() && gate.second.has_come() && !gate.gave_up.has_come());
+    let wrote = writes(rt, alloc, &["classes", "--workers", "2"], text, &gate)?;
+    let met = gate.first.has_come() && gate.second.has_come() && !gate.gave_up.has_come();
+    Ok(wrote && met)
+}
+
+#[test]
+fn the_same_bytes_with_any_number_of_workers(rt: HostRuntime) -> Result<(), AllocError> {
+    let alloc = rt.alloc();
+    let alone = ended(&rt, alloc, &["classes"], TT.as_bytes(), &GOOD_DAY)?;
+    let text = alone.out.bytes();
+    assert!(rt; text.ends_with(b"\nend 102\n"));
+    assert!(rt; writes(&rt, alloc, &["classes", "--workers", "2"], text, &OpenGate)?);
+    assert!(rt; writes(&rt, alloc, &["classes", "--workers", "8"], text, &OpenGate)?);
+    assert!(rt; meets(&rt, alloc, text)?);
     Ok(())
 }

@@ -3,7 +3,7 @@
 use crate::run;
 use crate::tests::pairs::{SIMPLEX, SQUARES, TT};
 use crate::tests::runs::{Outcome, owned};
-use io_edge::{Failed, MemorySink, MemorySource, OpenGate, Sink};
+use io_edge::{Failed, Gate, MemorySink, MemorySource, OpenGate, Sink};
 use std::alloc::{AllocError, Global};
 use std::sync::Wait;
 use std::thread::Threads;
@@ -13,7 +13,7 @@ const NO_CALL: u64 = 1 << 40;
 
 /// What a run is given beside its words and its text.
 #[derive(Clone, Copy, Drop)]
-struct Given {
+pub struct Given {
     /// How many bytes a read gives at most.
     step: usize,
     /// The calls of the source, of `out` and of `err` that fail, counted from 0.
@@ -23,20 +23,21 @@ struct Given {
 }
 
 /// No call fails, and each read gives what is asked for.
-const GOOD_DAY: Given = Given {
+pub const GOOD_DAY: Given = Given {
     step: 1 << 20,
     failing_read: NO_CALL,
     failing_write: NO_CALL,
     failing_message: NO_CALL,
 };
 
-/// How a run ends, and what it wrote.
-fn ended<R: Threads + Wait + Sync>(
+/// How a run behind a gate ends, and what it wrote.
+pub fn ended_behind<R: Threads + Wait + Sync, G: Gate + Sync>(
     rt: &R,
     alloc: Global,
     words: &[&str],
     text: &[u8],
     given: &Given,
+    gate: &G,
 ) -> Result<Outcome, AllocError> {
     let words = owned(alloc, words)?;
     let bytes = Vec::from_slice(alloc, text)?;
@@ -45,12 +46,23 @@ fn ended<R: Threads + Wait + Sync>(
     let mut out = MemorySink::new(alloc, 100000, vec![in alloc; given.failing_write]?)?;
     let mut err = MemorySink::new(alloc, 1000, vec![in alloc; given.failing_message]?)?;
     let words = words.as_slice();
-    let status = run(rt, alloc, words, &mut source, &mut out, &mut err, &OpenGate);
+    let status = run(rt, alloc, words, &mut source, &mut out, &mut err, gate);
     Ok(Outcome {
         code: status.code(),
         out,
         err,
     })
+}
+
+/// How a run ends that no gate holds, and what it wrote.
+pub fn ended<R: Threads + Wait + Sync>(
+    rt: &R,
+    alloc: Global,
+    words: &[&str],
+    text: &[u8],
+    given: &Given,
+) -> Result<Outcome, AllocError> {
+    ended_behind(rt, alloc, words, text, given, &OpenGate)
 }
 
 /// The first lines of a text, so many of them.

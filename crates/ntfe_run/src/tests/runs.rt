@@ -1,8 +1,8 @@
-//! Whole runs, most of them on one thread. The program itself calls `run`, and the cases are run on it.
+//! Whole runs on one thread. The program itself calls `run`, and the cases are run on it.
 
+use crate::run_alone;
 use crate::tests::pairs::{PYRAMID, SIMPLEX, SQUARES};
-use crate::{run, run_alone};
-use io_edge::{MemorySink, MemorySource, OpenGate, Sink, SliceSource, Source};
+use io_edge::{MemorySink, MemorySource, Sink, SliceSource, Source};
 use std::alloc::{AllocError, Global};
 
 /// What a run wrote, and how it ended.
@@ -34,26 +34,21 @@ fn code_of<S: Source, K: Sink, E: Sink>(
     Ok(run_alone(alloc, words.as_slice(), source, out, err).code())
 }
 
-/// Runs on text with ample room; `failing` is the number of the call of `out` that fails.
-pub fn run_on(
-    alloc: Global,
-    words: &[&str],
-    text: &str,
-    failing: u64,
-) -> Result<Outcome, AllocError> {
+/// Runs on text with ample room.
+pub fn run_on(alloc: Global, words: &[&str], text: &str) -> Result<Outcome, AllocError> {
     let mut source = SliceSource {
         bytes: text.as_bytes(),
     };
-    let mut out = MemorySink::new(alloc, 100000, vec![in alloc; failing]?)?;
+    let mut out = MemorySink::new(alloc, 100000, Vec::new(alloc))?;
     let mut err = MemorySink::new(alloc, 1000, Vec::new(alloc))?;
     let code = code_of(alloc, words, &mut source, &mut out, &mut err)?;
     Ok(Outcome { code, out, err })
 }
 
-/// Runs `classes` on the simplex, where the source gives a byte at a time and its call of this number fails.
-fn run_bytewise(alloc: Global, failing: u64) -> Result<Outcome, AllocError> {
+/// Runs `classes` on the simplex, where the source gives a byte at a time.
+fn run_bytewise(alloc: Global) -> Result<Outcome, AllocError> {
     let bytes = Vec::from_slice(alloc, SIMPLEX.as_bytes())?;
-    let mut source = MemorySource::new(bytes, 1, vec![in alloc; failing]?);
+    let mut source = MemorySource::new(bytes, 1, Vec::new(alloc));
     let mut out = MemorySink::new(alloc, 9999, Vec::new(alloc))?;
     let mut err = MemorySink::new(alloc, 999, Vec::new(alloc))?;
     let code = code_of(alloc, &["classes"], &mut source, &mut out, &mut err)?;
@@ -70,55 +65,20 @@ fn text_of(alloc: Global, pair: &str, behind: &str) -> Result<String, AllocError
 
 #[test]
 fn the_first_class_with_its_star(rt: HostRuntime) -> Result<(), AllocError> {
-    let all = run_on(
-        rt.alloc(),
-        &["classes", "--stars", "--limit", "1"],
-        PYRAMID,
-        9999,
-    )?;
+    let all = run_on(rt.alloc(), &["classes", "--stars", "--limit", "1"], PYRAMID)?;
     assert!(rt; all.code == 0);
     assert!(rt; all.out.bytes().ends_with(b"simplex 3 5 6 7\nlimit 1\n"));
     Ok(())
 }
 
 #[test]
-fn two_workers_beside_the_server(rt: HostRuntime) -> Result<(), AllocError> {
-    let words = owned(rt.alloc(), &["classes", "--workers", "2"])?;
-    let mut source = SliceSource {
-        bytes: PYRAMID.as_bytes(),
-    };
-    let mut out = MemorySink::new(rt.alloc(), 9999, Vec::new(rt.alloc()))?;
-    let mut err = MemorySink::new(rt.alloc(), 999, Vec::new(rt.alloc()))?;
-    let status = run(
-        &rt,
-        rt.alloc(),
-        words.as_slice(),
-        &mut source,
-        &mut out,
-        &mut err,
-        &OpenGate,
-    );
-    assert!(rt; status.code() == 0);
-    assert!(rt; out.bytes().ends_with(b"heights 0 0 0 -1 0 0 0\nend 2\n"));
-    Ok(())
-}
-
-#[test]
 fn a_limit_that_is_not_reached(rt: HostRuntime) -> Result<(), AllocError> {
-    let all = run_on(rt.alloc(), &["classes", "--limit", "3"], PYRAMID, 9999)?;
+    let all = run_on(rt.alloc(), &["classes", "--limit", "3"], PYRAMID)?;
     assert!(rt;
         all.out
             .bytes()
             .ends_with(b"heights 0 0 0 -1 0 0 0\nend 2\n")
     );
-    Ok(())
-}
-
-#[test]
-fn a_sink_that_fails_at_its_third_call(rt: HostRuntime) -> Result<(), AllocError> {
-    let cut = run_on(rt.alloc(), &["classes"], SIMPLEX, 3)?;
-    assert!(rt; cut.code == 8);
-    assert!(rt; cut.out.bytes() == b"ntfe 1\nvertices 5\n1 0 0 0\n".as_slice());
     Ok(())
 }
 
@@ -129,24 +89,16 @@ fn a_source_of_single_bytes(rt: HostRuntime) -> Result<(), AllocError> {
         SIMPLEX,
         "push up\nclass 0 0 0 0 0 0 0 0 0 0\nheights 0 0 0 0 0\nend 1\n",
     )?;
-    let all = run_bytewise(rt.alloc(), 9999)?;
+    let all = run_bytewise(rt.alloc())?;
     assert!(rt; all.code == 0);
     assert!(rt; all.out.bytes() == whole.as_bytes());
     Ok(())
 }
 
 #[test]
-fn a_source_that_fails_at_its_fifth_call(rt: HostRuntime) -> Result<(), AllocError> {
-    let failed = run_bytewise(rt.alloc(), 5)?;
-    assert!(rt; failed.code == 7);
-    assert!(rt; failed.out.bytes().is_empty());
-    Ok(())
-}
-
-#[test]
 fn numbers_that_are_too_wide(rt: HostRuntime) -> Result<(), AllocError> {
     let head = text_of(rt.alloc(), SQUARES, "push up\n")?;
-    let stopped = run_on(rt.alloc(), &["classes", "--width=1"], SQUARES, 9999)?;
+    let stopped = run_on(rt.alloc(), &["classes", "--width=1"], SQUARES)?;
     assert!(rt; stopped.code == 4);
     assert!(rt; stopped.out.bytes() == head.as_bytes());
     assert!(rt;
@@ -198,7 +150,7 @@ last 0 0 1 1 1 0 1 1 1 1 1 1 0 0 0\n";
 
 #[test]
 fn the_first_demo(rt: HostRuntime) -> Result<(), AllocError> {
-    let all = run_on(rt.alloc(), &["demo", "1"], "", 9999)?;
+    let all = run_on(rt.alloc(), &["demo", "1"], "")?;
     assert!(rt; all.code == 0);
     assert!(rt; all.out.bytes() == DEMO.as_bytes());
     Ok(())
@@ -206,7 +158,7 @@ fn the_first_demo(rt: HostRuntime) -> Result<(), AllocError> {
 
 #[test]
 fn no_earlier_output(rt: HostRuntime) -> Result<(), AllocError> {
-    let refused = run_on(rt.alloc(), &["resume"], SIMPLEX, 9999)?;
+    let refused = run_on(rt.alloc(), &["resume"], SIMPLEX)?;
     assert!(rt; refused.code == 3);
     assert!(rt; refused.err.bytes() == b"ntfe: no output line\n".as_slice());
     Ok(())
