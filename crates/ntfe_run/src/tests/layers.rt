@@ -2,7 +2,7 @@
 ghost use Rattle.std.specs.Prelude.{◌≡◌, [], ◌∷◌, IfOk};
 
 use crate::inputs::geometry_of;
-use crate::tests::pairs::{CUBE, PYRAMID, TT};
+use crate::tests::pairs::{PYRAMID, TT};
 use face_chart::{Chart, chart};
 use farkas_check::verify;
 use fine_stream::{OwnBook, Stream};
@@ -10,10 +10,7 @@ use fine_triples::{is_fine, word_of};
 use fold_rows::folds;
 use node_probe::{Finding, probe};
 use nogood_set::NogoodSet;
-use ntfe_model::{
-    Book, Fold, Geometry, Heights, ITEM_LIMIT, Key, List, Nogood, Part, Push, Term, Triangulation,
-};
-use star_builder::{build, restrict};
+use ntfe_model::{Book, Fold, Geometry, ITEM_LIMIT, Key, List, Nogood, Part, Term, Triangulation};
 use std::alloc::{AllocError, Global};
 use strict_solver::Tableau;
 
@@ -30,55 +27,11 @@ pub fn geometry(alloc: Global, text: &str) -> Result<Geometry, AllocError> {
 }
 
 /// The chart of a two-face.
-fn chart_of(alloc: Global, geometry: &Geometry, face: u32) -> Result<Chart, AllocError> {
+pub fn chart_of(alloc: Global, geometry: &Geometry, face: u32) -> Result<Chart, AllocError> {
     if geometry.faces().len() <= face as usize {
         return Err(AllocError);
     }
     chart(alloc, geometry, face)
-}
-
-/// How many items a stream gives, up to a number of them.
-fn streamed(mut stream: Stream, most: u32) -> Result<u32, AllocError> {
-    for number in 0..most {
-        if stream.next()?.is_none() {
-            return Ok(number);
-        }
-    }
-    Ok(most)
-}
-
-/// How many items a book has of the two-face, up to a number of them.
-fn fetched<B: Book>(
-    book: &mut B,
-    geometry: &Geometry,
-    face: u32,
-    most: u32,
-) -> Result<u32, AllocError>
-    requires { B.shape book.old ≡ geometry.now }
-{
-    for number in 0..most.min(ITEM_LIMIT) {
-        if face as usize >= geometry.faces().len() || !book.fetch(face, number)? {
-            return Ok(number);
-        }
-    }
-    Ok(most)
-}
-
-/// How many items the two-face of a pair has, as a stream gives them and as a book fetches them.
-fn counts(alloc: Global, text: &str, face: u32) -> Result<(u32, u32), AllocError> {
-    let geometry = geometry(alloc, text)?;
-    let stream = Stream::new(alloc, chart_of(alloc, &geometry, face)?)?;
-    let mut book = OwnBook::new(alloc, &geometry)?;
-    Ok((
-        streamed(stream, 20000)?,
-        fetched(&mut book, &geometry, face, 20000)?,
-    ))
-}
-
-#[test]
-fn items_of_a_cubes_face(rt: HostRuntime) -> Result<(), AllocError> {
-    assert!(rt; counts(rt.alloc(), CUBE, 0)? == (64, 64));
-    Ok(())
 }
 
 /// The item that comes first, and the one that a stream gives that stands after it.
@@ -264,34 +217,5 @@ fn are_refuted(alloc: Global, times: &[i64]) -> Result<bool, AllocError> {
 fn three_squares_that_cannot_stand_together(rt: HostRuntime) -> Result<(), AllocError> {
     assert!(rt; are_refuted(rt.alloc(), &[1, 1, 1])?);
     assert!(rt; !are_refuted(rt.alloc(), &[1, 1, 2])?);
-    Ok(())
-}
-
-/// The word of what the star of the heights leaves on the first two-face.
-fn word_left(alloc: Global, geometry: &Geometry, heights: &[i64]) -> Result<List<u32>, AllocError> {
-    let heights = Heights(List::from_vec(Vec::from_slice(alloc, heights)?));
-    if heights.0.as_slice().len() != geometry.points().len() || geometry.faces().is_empty() {
-        return Err(AllocError);
-    }
-    let star = build(alloc, geometry, &heights, Push::Down)?;
-    let left = restrict(alloc, &star, geometry, 0)?;
-    let chart = chart(alloc, geometry, 0)?;
-    if !is_fine(&chart, left.as_slice()) {
-        return Err(AllocError);
-    }
-    word_of(alloc, &chart, left.as_slice())
-}
-
-/// Whether the star of these heights leaves these words on the square of the pyramid.
-fn leaves(alloc: Global, height: i64, word: &[u32]) -> Result<bool, AllocError> {
-    let geometry = geometry(alloc, PYRAMID)?;
-    let left = word_left(alloc, &geometry, &[0, 0, 0, height, 0, 0, 0])?;
-    Ok(left.as_slice() == word)
-}
-
-#[test]
-fn what_stars_leave_on_a_square(rt: HostRuntime) -> Result<(), AllocError> {
-    assert!(rt; leaves(rt.alloc(), 1, &[5, 7])?);
-    assert!(rt; leaves(rt.alloc(), -1, &[7, 5])?);
     Ok(())
 }

@@ -114,3 +114,66 @@ dual 8\n\
 0 0 -1 0\n\
 0 0 0 1\n\
 0 0 0 -1\n";
+
+/// The product of a square of side 2 and a triangle.
+pub const BOX_T: &str = "\
+vertices 12\n\
+-1 -1 1 0\n\
+-1 -1 0 1\n\
+-1 -1 -1 -1\n\
+-1 1 1 0\n\
+-1 1 0 1\n\
+-1 1 -1 -1\n\
+1 -1 1 0\n\
+1 -1 0 1\n\
+1 -1 -1 -1\n\
+1 1 1 0\n\
+1 1 0 1\n\
+1 1 -1 -1\n\
+dual 7\n\
+-1 0 0 0\n\
+0 -1 0 0\n\
+0 1 0 0\n\
+1 0 0 0\n\
+0 0 -1 -1\n\
+0 0 2 -1\n\
+0 0 -1 2\n";
+
+/// A tetrahedron with two apexes; its first two-face is a triangle of side 2.
+pub const TETRA: &str = "\
+vertices 6\n\
+1 1 1 0\n\
+1 -1 -1 0\n\
+-1 1 -1 0\n\
+-1 -1 1 0\n\
+0 0 0 1\n\
+0 0 0 -1\n\
+dual 8\n\
+-1 -1 1 1\n\
+-1 -1 1 -1\n\
+-1 1 -1 1\n\
+-1 1 -1 -1\n\
+1 -1 -1 1\n\
+1 -1 -1 -1\n\
+1 1 1 1\n\
+1 1 1 -1\n";
+
+/// The product of two triangles of side 3.
+pub const DUAL_TT: &str = "\
+vertices 9\n\
+-1 -1 -1 -1\n\
+-1 -1 2 -1\n\
+-1 -1 -1 2\n\
+2 -1 -1 -1\n\
+2 -1 2 -1\n\
+2 -1 -1 2\n\
+-1 2 -1 -1\n\
+-1 2 2 -1\n\
+-1 2 -1 2\n\
+dual 6\n\
+1 0 0 0\n\
+0 1 0 0\n\
+-1 -1 0 0\n\
+0 0 1 0\n\
+0 0 0 1\n\
+0 0 -1 -1\n";

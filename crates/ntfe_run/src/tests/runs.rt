@@ -116,7 +116,7 @@ fn resumed(alloc: Global, behind: &str) -> Result<Outcome, AllocError> {
     text.push_str("output\nntfe 1\n")?;
     text.push_str(SIMPLEX)?;
     text.push_str(behind)?;
-    run_on(alloc, &["resume"], &text, 9999)
+    run_on(alloc, &["resume"], &text)
 }
 
 #[test]

@@ -1,5 +1,5 @@
 use Rattle.std.proofs.Common.{◌≡◌}
-use Rattle.ntfe_run.proofs.tests.layers.fetched.Given as goal
+use Rattle.ntfe_run.proofs.tests.items.fetched.Given as goal
 
 -- the book stays one of the geometry
 abbrev pub invariant-loop-number : goal.invariant-loop-number
