@@ -1,5 +1,5 @@
 -- The rows of a plane.
-use Rattle.std.proofs.Common.{◌≡◌, ℕ, ◌+◌, ◌<◌, ◌≤◌, sym, subst, arith, true, false, ℤ, pos, ◌+ℤ◌, ◌≤ℤ◌, ◌^◌, List, [], ◌∷◌, length, take, get_or, unsigned_abs, w64, to_z, of_z}
+use Rattle.std.proofs.Common.{◌≡◌, ℕ, ◌+◌, ◌<◌, ◌≤◌, sym, subst, arith, true, false, ℤ, pos, ◌+ℤ◌, ◌≤ℤ◌, ◌^◌, List, length, take, get_or, unsigned_abs, w64, to_z, of_z}
 use Rattle.std.specs.Prelude.{All, ◌<ℤ◌}
 use Rattle.std.proofs.lemmas.Int.{ints, by_lt_z}
 use Rattle.std.proofs.lemmas.List.{take_all}

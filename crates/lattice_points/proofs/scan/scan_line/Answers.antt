@@ -1,4 +1,4 @@
-use Rattle.std.proofs.Common.{◌∙◌, sym, subst, ℤ, w64, to_z, of_z, to_z-of_z}
+use Rattle.std.proofs.Common.{◌∙◌, sym, subst, ℤ, to_z-of_z}
 use Rattle.lattice_points.specs.Boxes.{IsInSome}
 use Rattle.lattice_points.specs.Scans.{IsOnLine}
 use Rattle.lattice_points.proofs.BoxLemmas.{first_small, second_small, third_small, extent_size, within_size}
