@@ -21,7 +21,7 @@ use Rattle.lattice_points.specs.declared.sums.Sums.{Sums}
 use Rattle.lattice_points.specs.Boxes.{IsWithin, IsSmallExtent, AreBoundsOf}
 use Rattle.lattice_points.specs.Inequalities.{IsShort, IsGiven, IsSum, value_at, AreSums}
 use Rattle.lattice_points.specs.Lines.{IsOpen}
-use Rattle.lattice_points.specs.Scans.{IsOnPlane, IsOnLine}
+use Rattle.lattice_points.specs.Scans.{IsOnPlane, IsOnLine, IsOnRow}
 use Rattle.lattice_points.proofs.BoxLemmas.{extent_low, extent_high}
 use Rattle.lattice_points.proofs.CutLemmas.{short_back, product_rises}
 
@@ -140,7 +140,7 @@ mix_given ms q p m n s hq hp e short a b = record {
 pub vertex_given : (ms : List Vector) (m : Vector) (s : Inequality) → s.c1 ≡ m.x1 → s.c2 ≡ m.x2 → s.c3 ≡ m.x3 → s.c4 ≡ m.x4 → s.rest ≡ pos 0 → IsSmall m → Contains ms m → IsGiven ms s
 vertex_given ms m s e1 e2 e3 e4 e h k =
     let P : Inequality → Type 0 = IsGiven ms in
-    let q : s ≡ record { c1 = m.x1; c2 = m.x2; c3 = m.x3; c4 = m.x4; rest = pos 0 } = (λ i. record { c1 = e1 i; c2 = e2 i; c3 = e3 i; c4 = e4 i; rest = e i }) in
+    let q : s ≡ record { c1 = m.x1; c2 = m.x2; c3 = m.x3; c4 = m.x4; rest = pos 0; vertices = s.vertices } = (λ i. record { c1 = e1 i; c2 = e2 i; c3 = e3 i; c4 = e4 i; rest = e i; vertices = s.vertices }) in
     subst P (sym q) (record {
       short = (wide m.x1 (small_size m.x1 h.low1 h.high1), (wide m.x2 (small_size m.x2 h.low2 h.high2), (wide m.x3 (small_size m.x3 h.low3 h.high3), (wide m.x4 (small_size m.x4 h.low4 h.high4), (omega arith, tt)))));
       holds = λ x o. (let d = All-contains (λ v. negsuc 0 ≤ℤ dot v x) ms m o k in plus_none (m.x1 *ℤ x.x1 +ℤ m.x2 *ℤ x.x2 +ℤ m.x3 *ℤ x.x3 +ℤ m.x4 *ℤ x.x4) d);
@@ -245,6 +245,16 @@ third_holds ms s x x1 x2 level g e4 e o f1 f2 =
     let n2 = ap (λ y. s.c2 *ℤ y) f2 in
     omega (arith, ints)
 
+-- and the second, where the first and the third are known
+pub row_holds : (ms : List Vector) (s : Inequality) (x : Vector) (x1 x3 level : ℤ) → IsGiven ms s → s.c4 ≡ pos 0 → level ≡ s.c1 *ℤ x1 +ℤ s.c3 *ℤ x3 +ℤ s.rest → IsOpen ms x → x.x1 ≡ x1 → x.x3 ≡ x3
+    → negsuc 0 ≤ℤ (level +ℤ s.c2 *ℤ x.x2)
+row_holds ms s x x1 x3 level g e4 e o f1 f3 =
+    let h = g.holds x o in
+    let n4 = ap (λ y. y *ℤ x.x4) e4 ∙ none_times x.x4 in
+    let n1 = ap (λ y. s.c1 *ℤ y) f1 in
+    let n3 = ap (λ y. s.c3 *ℤ y) f3 in
+    omega (arith, ints)
+
 module _ (sums : Sums) (ss : List Inequality) (s : Inequality) where
   pub second_short : ss ≡ sums.two.items → Contains ss s → ((ms : List Vector) × AreSums ms sums) → IsShort s
   second_short q k (ms, all) = let P : List Inequality → Type 0 = λ xs. Contains xs s in (All-contains (IsSum ms Third) sums.two.items s all.two (subst P q k)).0.short
@@ -267,6 +277,14 @@ module _ (sums : Sums) (ss : List Inequality) (s : Inequality) where
       let P : List Inequality → Type 0 = λ xs. Contains xs s in
       narrowed_more sums (IsOnLine x1 x2) (λ v. v.x3) extent left next level s.c3
       (λ ms x all o f. (let g = All-contains (IsSum ms Fourth) sums.three.items s all.three (subst P q k) in third_holds ms s x x1 x2 level g.0 g.1 e o f.0 f.1)) cut size n
+
+  pub row_more : (x1 x3 level : ℤ) (extent left next : Extent) → ss ≡ sums.three.items → Contains ss s → level ≡ s.c1 *ℤ x1 +ℤ s.c3 *ℤ x3 +ℤ s.rest
+      → ((z : ℤ) → IsWithin next z ↔ (IsWithin left z × (negsuc 0 ≤ℤ (level +ℤ s.c2 *ℤ z)))) → AreWithin (2 ^ 33) (next.low ∷ next.high ∷ [])
+      → IsNarrowed sums (IsOnRow x1 x3) (λ v. v.x2) extent left → IsNarrowed sums (IsOnRow x1 x3) (λ v. v.x2) extent next
+  row_more x1 x3 level extent left next q k e cut size n =
+      let P : List Inequality → Type 0 = λ xs. Contains xs s in
+      narrowed_more sums (IsOnRow x1 x3) (λ v. v.x2) extent left next level s.c2
+      (λ ms x all o f. (let g = All-contains (IsSum ms Fourth) sums.three.items s all.three (subst P q k) in row_holds ms s x x1 x3 level g.0 g.1 e o f.0 f.1)) cut size n
 
 pub level_back : (z : ℤ) → unsigned_abs z ≤ 2 ^ 32 → to_z w64 (of_z w64 z) ≡ z
 level_back z h = short_back z (let k : unsigned_abs z ≤ 2 ^ 34 = omega arith in k)

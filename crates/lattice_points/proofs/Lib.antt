@@ -4,3 +4,4 @@ pub mod LineLemmas
 pub mod FoundLemmas
 pub mod ScanLemmas
 pub mod InequalityLemmas
+pub mod RowLemmas

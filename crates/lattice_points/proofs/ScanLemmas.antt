@@ -60,6 +60,15 @@ adds_same p S T old new f g a = record {
   kept = a.kept;
 }
 
+-- where there is no point nothing is found
+pub adds_nothing : (p : VertexLists) (S : Vector → Type 0) (f : Found) → ((q : Point) → IsPointOf p q → S q.place → ⊥) → Adds p S f f
+adds_nothing p S f h = record {
+  added = [];
+  listing = listing_nil (λ x y. Precedes x.place y.place) (IsPointWith p S) (λ q k. h q k.point k.place);
+  count = omega arith;
+  kept = λ k. sym (append-nil f.points.items);
+}
+
 -- S is what is known of the places, and c the coordinate that is gone through
 module _ (p : VertexLists) (S : Vector → Type 0) (c : Vector → ℤ) where
   -- below the least coordinate nothing is found

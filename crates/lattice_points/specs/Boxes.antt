@@ -1,5 +1,6 @@
 -- Extents, and the bounding box of a list of vectors.
-use Rattle.std.specs.Prelude.{◌≡◌, ℤ, pos, negsuc, ◌+ℤ◌, ◌-ℤ◌, ◌≤ℤ◌, List, All, Any}
+use Rattle.std.specs.Prelude.{◌≡◌, ◌^◌, ℤ, pos, negsuc, ◌+ℤ◌, ◌-ℤ◌, ◌≤ℤ◌, List, [], ◌∷◌, All, Any}
+use Rattle.ntfe_nums.specs.Sizes.{AreWithin}
 use Rattle.ntfe_nums.specs.Vectors.{Vector}
 use Rattle.lattice_points.specs.declared.bounds.Extent.{Extent}
 use Rattle.lattice_points.specs.declared.bounds.Bounds.{Bounds}
@@ -8,6 +9,14 @@ use Rattle.lattice_points.specs.declared.bounds.Bounds.{Bounds}
 pub record IsWithin (e : Extent) (x : ℤ) : Type 0 where
   pub low : e.low ≤ℤ x
   pub high : x ≤ℤ e.high
+
+-- x is a number of one of the extents
+abbrev pub IsInSome : List Extent → ℤ → Type 0
+IsInSome es x = Any (λ e. IsWithin e x) es
+
+-- their ends are at most 2^33 in size
+abbrev pub AreShortExtents : List Extent → Type 0
+AreShortExtents es = All (λ e. AreWithin (2 ^ 33) (e.low ∷ e.high ∷ [])) es
 
 -- the extent goes from the least to the greatest value of c
 pub record IsExtentOf (c : Vector → ℤ) (vs : List Vector) (e : Extent) : Type 0 where

@@ -17,6 +17,9 @@ IsOnPlane x1 v = v.x1 ≡ x1
 abbrev pub IsOnLine : ℤ → ℤ → Vector → Type 0
 IsOnLine x1 x2 v = (v.x1 ≡ x1) × (v.x2 ≡ x2)
 
+abbrev pub IsOnRow : ℤ → ℤ → Vector → Type 0
+IsOnRow x1 x3 v = (v.x1 ≡ x1) × (v.x3 ≡ x3)
+
 abbrev pub IsInColumn : ℤ → ℤ → ℤ → Vector → Type 0
 IsInColumn x1 x2 x3 v = (v.x1 ≡ x1) × (v.x2 ≡ x2) × (v.x3 ≡ x3)
 

@@ -1,8 +1,9 @@
 //! The bounding box of the vertices.
-ghost use Rattle.std.specs.Prelude.{◌≡◌, ℤ, pos, ◌*ℤ◌, ◌≤ℤ◌, ◌<◌, ◌≤◌, [], ◌∷◌, length, slice_index_or};
+ghost use Rattle.std.specs.Prelude.{◌≡◌, true, false, ℤ, pos, ◌*ℤ◌, ◌≤ℤ◌, ◌<◌, ◌≤◌, ◌^◌, [], ◌∷◌, length, slice_index_or};
+ghost use Rattle.ntfe_nums.specs.Sizes.{AreWithin};
 ghost use Rattle.ntfe_nums.specs.Vectors.{numbers};
 ghost use Rattle.ntfe_model.specs.Pairs.{IsBoundedList};
-ghost use Rattle.lattice_points.specs.Boxes.{IsExtentOf, AreBoundsOf, IsSmallExtent, side_of_extent};
+ghost use Rattle.lattice_points.specs.Boxes.{IsWithin, IsExtentOf, AreBoundsOf, IsSmallExtent, side_of_extent};
 
 use ntfe_model::Vec4;
 
@@ -21,6 +22,27 @@ impl Extent {
         ensures most { result ≤ 2047 }
     {
         (self.high - self.low + 1) as u64
+    }
+
+    /// Whether there is no number.
+    pub fn is_empty(&self) -> bool
+        requires { AreWithin (2 ^ 33) (self.now.low ∷ self.now.high ∷ []) }
+        ensures { result ≡ true → (x : ℤ) → ¬ (IsWithin self.now x) }
+    {
+        self.high < self.low
+    }
+
+    /// Whether this is one of the numbers.
+    pub fn contains(&self, x: i64) -> bool
+        requires { AreWithin (2 ^ 33) (self.now.low ∷ self.now.high ∷ []) }
+        ensures { result ≡ false → ¬ (IsWithin self.now x) }
+    {
+        self.low <= x && x <= self.high
+    }
+
+    /// Whether the numbers go on for longer than those of another extent.
+    pub fn is_longer(&self, other: &Extent) -> bool {
+        self.high.saturating_sub(self.low) > other.high.saturating_sub(other.low)
     }
 }
 

@@ -2,18 +2,19 @@
 ghost use Rattle.std.specs.Prelude.{◌≡◌, true, ℤ, pos, ◌+ℤ◌, ◌*ℤ◌, ◌≤ℤ◌, ◌≤◌, ◌^◌, [], ◌∷◌, All, Contains, IfOk, IfSome, OnOk, List as Items, unsigned_abs};
 ghost use Rattle.ntfe_nums.specs.Sizes.{AreWithin};
 ghost use Rattle.ntfe_nums.specs.Vectors.{Vector};
-ghost use Rattle.ntfe_model.specs.Pairs.{IsSmall};
+ghost use Rattle.ntfe_model.specs.Pairs.{IsSmall, IsBoundedList};
 ghost use Rattle.lattice_points.specs.Inequalities.{IsShort, IsGiven, Lacks, IsSum};
 ghost use Rattle.lattice_points.specs.declared.inequality.Cancelled.{Cancelled as AsCancelled};
 
-use ntfe_model::Vec4;
+use ntfe_model::{Vec4, tight_bits};
 use ntfe_nums::gcd;
 use std::alloc::{AllocError, Global};
 
 /// The most that a number of an inequality may be, with either sign.
 const MOST: i64 = 2_097_152;
 
-/// The inequality `c1 x1 + c2 x2 + c3 x3 + c4 x4 + rest >= -1`.
+/// The inequality `c1 x1 + c2 x2 + c3 x3 + c4 x4 + rest >= -1`, and the vertices at which it is as tight as it can be, a bit
+/// for each. It holds whatever the bits say: they only tell which sums are worth their time.
 #[derive(Clone, Copy, Drop)]
 pub struct Inequality {
     pub c1: i64,
@@ -21,6 +22,7 @@ pub struct Inequality {
     pub c3: i64,
     pub c4: i64,
     pub rest: i64,
+    pub vertices: u64,
 }
 
 /// The coordinate that cancels: the fourth, or the third once the fourth has.
@@ -28,6 +30,17 @@ pub struct Inequality {
 pub enum Cancelled {
     Third,
     Fourth,
+}
+
+impl Cancelled {
+    /// How many vertices two inequalities share whose sum bounds the polytope's image in the coordinates before this one:
+    /// an image in three has polygons for facets, one in two has edges.
+    fn least_shared(self) -> u32 {
+        match self {
+            Cancelled::Third => 2,
+            Cancelled::Fourth => 3,
+        }
+    }
 }
 
 /// q times the one number and p times the other.
@@ -61,8 +74,8 @@ fn is_weight(x: i64) -> bool
 }
 
 impl Inequality {
-    /// The inequality of a dual vertex.
-    fn of(m: &Vec4) -> Inequality
+    /// The inequality of a dual vertex that is tight on these vertices.
+    fn of(m: &Vec4, vertices: u64) -> Inequality
         requires { IsSmall m.now }
         ensures { (ms : Items Vector) → Contains ms m.now → IsGiven ms result }
     {
@@ -73,6 +86,7 @@ impl Inequality {
             c3: c[2],
             c4: c[3],
             rest: 0,
+            vertices,
         }
     }
 
@@ -114,6 +128,16 @@ impl Inequality {
     {
         self.c1 * x1 + self.c2 * x2 + self.rest
     }
+
+    /// What the first and the third coordinate and the rest give.
+    pub fn row_level(&self, x1: i64, x3: i64) -> i64
+        requires short { IsShort self.now }
+        requires size { AreWithin 1023 (x1 ∷ x3 ∷ []) }
+        ensures value { result ≡ self.now.c1 *ℤ x1 +ℤ self.now.c3 *ℤ x3 +ℤ self.now.rest }
+        ensures size { AreWithin (2 ^ 32) (result ∷ []) }
+    {
+        self.c1 * x1 + self.c3 * x3 + self.rest
+    }
 }
 
 /// q times the one inequality and p times the other, where the weights are positive and the numbers stay short.
@@ -131,6 +155,7 @@ fn sum_of(q: i64, m: &Inequality, p: i64, n: &Inequality) -> Option<Inequality>
         c3: combined(q, m.c3, p, n.c3),
         c4: combined(q, m.c4, p, n.c4),
         rest: combined(q, m.rest, p, n.rest) + (q + p - 1),
+        vertices: m.vertices & n.vertices,
     };
     if !sum.is_short() {
         return None;
@@ -144,7 +169,7 @@ fn weight(x: i64, common: u128) -> i64 {
     size.checked_div(common).unwrap_or(0).min(2 * MOST as u128) as i64
 }
 
-/// The sum of two inequalities with the least weights, if the coordinate cancels in it.
+/// The sum of two inequalities with the least weights, if the coordinate cancels in it and they share enough vertices.
 fn sum_without(cancelled: Cancelled, m: &Inequality, n: &Inequality) -> Option<Inequality>
     requires first { IsShort m.now }
     requires second { IsShort n.now }
@@ -153,6 +178,9 @@ fn sum_without(cancelled: Cancelled, m: &Inequality, n: &Inequality) -> Option<I
     let up = m.coefficient(cancelled);
     let down = n.coefficient(cancelled);
     if up < 1 || down > -1 {
+        return None;
+    }
+    if (m.vertices & n.vertices).count_ones() < cancelled.least_shared() {
         return None;
     }
     let common = gcd(
@@ -176,7 +204,8 @@ fn add(sum: Inequality, most: usize, sums: &mut Vec<Inequality>) -> Result<(), A
     Ok(())
 }
 
-/// Adds the sum of two inequalities, if the coordinate cancels in it, while there are not enough.
+/// Adds the sum of two inequalities, if the coordinate cancels in it and they share enough vertices, while there are not
+/// enough sums.
 fn add_sum(
     cancelled: Cancelled,
     m: &Inequality,
@@ -238,7 +267,7 @@ fn add_those_with(
 }
 
 /// At most so many of the inequalities in which the coordinate has cancelled, and of the sums of two others in which it
-/// cancels. Each of them holds by itself, so any may be left out.
+/// cancels. Each of them holds by itself, so any may be left out, and those of two that share too few vertices are.
 pub fn eliminate(
     alloc: Global,
     cancelled: Cancelled,
@@ -256,13 +285,18 @@ pub fn eliminate(
 }
 
 /// The inequalities of the dual vertices.
-pub fn inequalities_of(alloc: Global, dual: &[Vec4]) -> Result<Vec<Inequality>, AllocError>
-    requires { All IsSmall dual.now }
+pub fn inequalities_of(
+    alloc: Global,
+    vertices: &[Vec4],
+    dual: &[Vec4],
+) -> Result<Vec<Inequality>, AllocError>
+    requires vertices { IsBoundedList vertices.now }
+    requires dual { All IsSmall dual.now }
     ensures { IfOk result (λ v. All (IsGiven dual.now) v.items) }
 {
     let mut given = Vec::with_capacity(alloc, dual.len())?;
     for m in dual {
-        given.push(Inequality::of(m))?;
+        given.push(Inequality::of(m, tight_bits(m, vertices)))?;
     }
     Ok(given)
 }

@@ -6,6 +6,7 @@ mod column;
 mod fault;
 mod found;
 mod inequality;
+mod rows;
 mod scan;
 mod sums;
 #[cfg(test)]

@@ -4,7 +4,7 @@ ghost use Rattle.ntfe_nums.specs.Sizes.{AreWithin};
 ghost use Rattle.ntfe_nums.specs.Vectors.{Vector};
 ghost use Rattle.ntfe_model.specs.Pairs.{IsBounded};
 ghost use Rattle.ntfe_model.specs.Points.{IsInside, ArePoints};
-ghost use Rattle.lattice_points.specs.Boxes.{IsWithin, AreBoundsOf};
+ghost use Rattle.lattice_points.specs.Boxes.{IsWithin, AreBoundsOf, IsInSome, AreShortExtents};
 ghost use Rattle.lattice_points.specs.Faults.{HasFewColumns, HasCause};
 ghost use Rattle.lattice_points.specs.Lines.{place};
 ghost use Rattle.lattice_points.specs.Inequalities.{AreSums};
@@ -14,6 +14,7 @@ use crate::bounds::{Bounds, Extent};
 use crate::column::Line;
 use crate::fault::PointFault;
 use crate::found::Found;
+use crate::rows::Rows;
 use crate::sums::Sums;
 use ntfe_model::{List, Pair, Point, Vec4};
 use std::alloc::{AllocError, Global};
@@ -74,12 +75,13 @@ fn scan_columns(
     Ok(())
 }
 
-/// Goes through the columns of one line that the sums of inequalities leave.
+/// Goes through the columns of one line that the rows and the sums of inequalities leave.
 fn scan_line(
     alloc: Global,
     pair: &Pair,
     bounds: &Bounds,
     sums: &Sums,
+    rows: &Rows,
     x1: i64,
     x2: i64,
     found: &mut Found,
@@ -89,11 +91,19 @@ fn scan_line(
     requires bounds { AreBoundsOf pair.now.vertices bounds.now }
     requires first { IsWithin bounds.now.x1 x1 }
     requires second { IsWithin bounds.now.x2 x2 }
+    requires rows { (v : Vector) → IsInside pair.now v → IsOnLine x1 x2 v → IsInSome rows.now.extents.items v.x2 }
+    requires short { AreShortExtents rows.now.extents.items }
     requires room { found.old.count ≤ 2 ^ 60 }
     ensures adds { OnOk result (Adds pair.now (IsOnLine x1 x2) found.old found.new) }
     ensures most { OnOk result (found.new.count ≤ found.old.count + 2 ^ 22) }
 {
+    if !rows.contain(x2) {
+        return Ok(());
+    }
     let extent = sums.third_extent(x1, x2, bounds.x3);
+    if extent.is_empty() {
+        return Ok(());
+    }
     scan_columns(alloc, pair, bounds, x1, x2, extent, found)
 }
 
@@ -103,6 +113,7 @@ fn scan_lines(
     pair: &Pair,
     bounds: &Bounds,
     sums: &Sums,
+    rows: &Rows,
     x1: i64,
     extent: Extent,
     found: &mut Found,
@@ -113,13 +124,15 @@ fn scan_lines(
     requires first { IsWithin bounds.now.x1 x1 }
     requires all { (v : Vector) → IsInside pair.now v → IsOnPlane x1 v → IsWithin extent v.x2 }
     requires within { (x2 : ℤ) → IsWithin extent x2 → IsWithin bounds.now.x2 x2 }
+    requires rows { (v : Vector) → IsInside pair.now v → IsOnPlane x1 v → IsInSome rows.now.extents.items v.x2 }
+    requires short { AreShortExtents rows.now.extents.items }
     requires size { AreWithin (2 ^ 33) (extent.low ∷ extent.high ∷ []) }
     requires room { found.old.count ≤ 2 ^ 59 }
     ensures adds { OnOk result (Adds pair.now (IsOnPlane x1) found.old found.new) }
     ensures most { OnOk result (found.new.count ≤ found.old.count + 2 ^ 33) }
 {
     for x2 in extent.low..extent.high + 1 {
-        scan_line(alloc, pair, bounds, sums, x1, x2, found)?;
+        scan_line(alloc, pair, bounds, sums, rows, x1, x2, found)?;
     }
     Ok(())
 }
@@ -130,6 +143,7 @@ fn scan_plane(
     pair: &Pair,
     bounds: &Bounds,
     sums: &Sums,
+    rows: &mut Rows,
     x1: i64,
     found: &mut Found,
 ) -> Result<(), AllocError>
@@ -142,7 +156,8 @@ fn scan_plane(
     ensures most { OnOk result (found.new.count ≤ found.old.count + 2 ^ 33) }
 {
     let extent = sums.second_extent(x1, bounds.x2);
-    scan_lines(alloc, pair, bounds, sums, x1, extent, found)
+    rows.go_to(sums, x1, extent, bounds.x3)?;
+    scan_lines(alloc, pair, bounds, sums, rows, x1, extent, found)
 }
 
 /// Goes through the planes of the box.
@@ -151,6 +166,7 @@ fn scan_box(
     pair: &Pair,
     bounds: &Bounds,
     sums: &Sums,
+    rows: &mut Rows,
     found: &mut Found,
 ) -> Result<(), AllocError>
     requires bounded { IsBounded pair.now }
@@ -160,7 +176,7 @@ fn scan_box(
     ensures { OnOk result (Adds pair.now IsAnywhere found.old found.new) }
 {
     for x1 in bounds.x1.low..bounds.x1.high + 1 {
-        scan_plane(alloc, pair, bounds, sums, x1, found)?;
+        scan_plane(alloc, pair, bounds, sums, rows, x1, found)?;
     }
     Ok(())
 }
@@ -177,8 +193,9 @@ fn scan_all(
     requires room { found.old.count ≤ 2 ^ 58 }
     ensures { OnOk result (Adds pair.now IsAnywhere found.old found.new) }
 {
-    let sums = Sums::of(alloc, pair.dual())?;
-    scan_box(alloc, pair, bounds, &sums, found)
+    let sums = Sums::of(alloc, pair.vertices(), pair.dual())?;
+    let mut rows = Rows::new(alloc);
+    scan_box(alloc, pair, bounds, &sums, &mut rows, found)
 }
 
 /// The lattice points of the polytope that are tight on at least two dual vertices, in order of

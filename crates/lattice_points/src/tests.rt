@@ -87,6 +87,23 @@ const SHEARED_DUAL: [[i64; 4]; 5] = [
     [-1, -1, -1, 904],
 ];
 
+/// An image of `SIMPLEX_DUAL`, wide in two coordinates and thin in the third.
+const THIN: [[i64; 4]; 5] = [
+    [-10, 13, -1, -7],
+    [-5, -72, -1, 43],
+    [-10, 18, -1, -12],
+    [35, 13, 4, -7],
+    [-10, 28, -1, -17],
+];
+
+const THIN_DUAL: [[i64; 4]; 5] = [
+    [1, 0, -9, 0],
+    [-4, -2, 36, -3],
+    [0, 0, 1, 0],
+    [7, 1, -63, 1],
+    [-4, 1, 35, 2],
+];
+
 const LARGE: [[i64; 4]; 5] = [
     [-1, -1, -1, -1],
     [83, -1, -1, -1],
@@ -108,6 +125,7 @@ fn counts(rt: HostRuntime) -> Result<(), Fail> {
     let alloc = rt.alloc();
     assert_eq!(rt; count_of(alloc, &SIMPLEX, &SIMPLEX_DUAL)?, Ok(5));
     assert_eq!(rt; count_of(alloc, &SIMPLEX_DUAL, &SIMPLEX)?, Ok(105));
+    assert_eq!(rt; count_of(alloc, &THIN, &THIN_DUAL)?, Ok(105));
     let wide = PointFault::TooWide {
         columns: 218_167_208,
     };

@@ -1,6 +1,9 @@
-use Rattle.std.proofs.Common.{sym, to_z-of_z}
+use Rattle.std.proofs.Common.{◌∙◌, sym, subst, ℤ, to_z-of_z}
+use Rattle.lattice_points.specs.Boxes.{IsInSome}
+use Rattle.lattice_points.specs.Scans.{IsOnLine}
 use Rattle.lattice_points.proofs.BoxLemmas.{first_small, second_small, third_small, extent_size, within_size}
 use Rattle.lattice_points.proofs.InequalityLemmas.{third_within, size_of}
+use Rattle.lattice_points.proofs.ScanLemmas.{adds_nothing}
 use Rattle.lattice_points.proofs.scan.scan_line.Goals as goal
 
 pub third_extent-extent-requires-clause-sums : goal.third_extent-extent-requires-clause-sums
@@ -21,3 +24,18 @@ pub scan_columns-requires-clause-all : goal.scan_columns-requires-clause-all
 scan_columns-requires-clause-all c = λ v k a.
     let p = c.args.pair.now in
     c.third_extent-extent.ensures.inside p.dual v c.requires.sums k.hull a (third_within p c.args.bounds.now v c.requires.bounds k)
+
+pub returns-then-not-contain-clause-adds : goal.returns-then-not-contain-clause-adds
+returns-then-not-contain-clause-adds c =
+    let a = c.args in
+    let P : ℤ → Type 0 = λ y. IsInSome a.rows.now.extents.items y in
+    adds_nothing a.pair.now (IsOnLine a.x1 a.x2) a.found.now
+    (λ q k s. c.contain.ensures c.if-not-contain.true (subst P (s.1 ∙ sym (to_z-of_z c.ranges.x2)) (c.requires.rows q.place k.inside s)))
+
+pub returns-then-is_empty-clause-adds : goal.returns-then-is_empty-clause-adds
+returns-then-is_empty-clause-adds c =
+    let a = c.args in
+    let p = a.pair.now in
+    adds_nothing p (IsOnLine a.x1 a.x2) a.found.now
+    (λ q k s. c.is_empty.ensures c.if-is_empty.true q.place.x3
+    (c.third_extent-extent.ensures.inside p.dual q.place c.requires.sums k.inside.hull (s.0 ∙ sym (to_z-of_z c.ranges.x1), s.1 ∙ sym (to_z-of_z c.ranges.x2)) (third_within p a.bounds.now q.place c.requires.bounds k.inside)))
