@@ -7,6 +7,7 @@ pub mod LiveKeys
 pub mod Settled
 pub mod HandedOut
 pub mod Probed
+pub mod Rows
 pub mod SharedBoards
 pub mod FoundKeys
 pub mod HeightsExtend

@@ -1,15 +1,12 @@
 -- The board that workers share stays one, whatever is settled on it or handed out.
-use Rattle.std.proofs.Common.{◌≡◌, ◌≢◌, refl, sym, ap, ◌∙◌, subst, ℕ, ◌+◌, ◌-◌, ◌^◌, min, List, true, nat_eq, arith}
+use Rattle.std.proofs.Common.{◌≡◌, ◌≢◌, refl, sym, ap, ◌∙◌, subst, ℕ, ◌+◌, ◌-◌, ◌^◌, min, List, [], ◌∷◌, true, nat_eq, arith}
 use Rattle.std.specs.Prelude.{Option}
 use Rattle.std.proofs.lemmas.Bool.Decides.{nat_tests}
-use Rattle.std.proofs.lemmas.List.Elements.{All-contains}
 use Rattle.ntfe_model.specs.Shapes.{Shape}
-use Rattle.ntfe_model.specs.Keys.{IsKey}
 use Rattle.choice_board.specs.States.{State, IsSound}
 use Rattle.choice_board.specs.Starts.{new_board}
 use Rattle.choice_board.specs.Settling.{IsSettledAs, totals_taken, counted}
 use Rattle.choice_board.specs.Telling.{IsHandedOut}
-use Rattle.choice_board.specs.declared.record.Found.TheVariants.{Class as FoundClass}
 use Rattle.choice_board.specs.declared.totals.Totals.{Totals}
 use Rattle.choice_board.specs.declared.outcome.Outcome.{Outcome}
 use Rattle.choice_board.specs.declared.outcome.Outcome.TheVariants.{Class, Wide, Far}
@@ -17,11 +14,12 @@ use Rattle.choice_board.specs.declared.verdict.Settled.{Settled}
 use Rattle.choice_board.specs.declared.verdict.Settled.TheVariants.{Stale, Taken}
 use Rattle.choice_board.specs.declared.verdict.Verdict.{Verdict}
 use Rattle.choice_board.specs.declared.verdict.Verdict.TheVariants as verdict
-use Rattle.steal_workers.specs.Listings.{Listed, IsNextOutcome, NoneIsLeft}
+use Rattle.steal_workers.specs.Listings.{Listed, NoneIsLeft}
 use Rattle.steal_workers.specs.Boards.{IsUnderWay, IsFewer, IsOver, IsLevel}
 use Rattle.steal_workers.specs.Probing.{IsVerdictOn}
-use Rattle.steal_workers.specs.Shared.{Shared, IsListedOn, IsKeyed, IsShared}
-use Rattle.steal_workers.proofs.HandedOut.{next_outcome, none_left, new_under_way, fewer_handed, fewer_under_way}
+use Rattle.steal_workers.specs.Shared.{Shared, IsListedOn, IsShared, AreHandedOut, IsRow}
+use Rattle.steal_workers.proofs.HandedOut.{none_left, new_under_way, fewer_handed, fewer_under_way}
+use Rattle.steal_workers.proofs.Rows.{handed_row}
 use Rattle.steal_workers.proofs.Ends.{counted_more}
 use Rattle.steal_workers.proofs.Settled.{stays_under_way}
 
@@ -31,16 +29,9 @@ is_level s l last h on e = record { last = e; under_way = h.under_way l on; soun
 
 -- ---- what one moment under the lock tells
 
--- the choice of a class that is handed out is a key
-handed_keyed : (s t : State) (g : Shape) → IsSound s → s.geometry ≡ g → (o : Outcome) → IsHandedOut s t o → IsKeyed g o
-handed_keyed s t g sound e (Class choice w) h =
-    subst (λ (x : Shape). IsKey x choice) e (All-contains (λ r. IsKey s.geometry r.key) s.recorded (record { key = choice; found = FoundClass choice w }) sound.record_keys h.0.next.recorded)
-handed_keyed s t g sound e (Wide choice step number) h = tt
-handed_keyed s t g sound e (Far face) h = tt
-
--- what is handed out comes next
-pub next_look : (s : Shared) (l : Listed) (last : Option (List ℕ)) → IsShared s → IsListedOn s l × (s.board.last ≡ last) → (t : State) (o : Outcome) → IsHandedOut s.board t o → IsNextOutcome l last o × IsKeyed l.geometry o
-next_look s l last h (on, e) t o told = (next_outcome l last s.board t (is_level s l last h on e) o told, handed_keyed s.board t l.geometry h.sound (sym on.geometry) o told)
+-- what is handed out is a row
+pub row_look : (s : Shared) (l : Listed) (last : Option (List ℕ)) → IsShared s → IsListedOn s l × (s.board.last ≡ last) → (t : State) (os : List Outcome) → AreHandedOut s.board t os → IsRow l last os
+row_look s l last h (on, e) t os told = handed_row l last s.board t (is_level s l last h on e) os told
 
 -- where the board is over nothing is left
 pub over_look : (s : Shared) (l : Listed) (last : Option (List ℕ)) → IsShared s → IsListedOn s l × (s.board.last ≡ last) → IsOver s.board → NoneIsLeft l.geometry last
@@ -53,7 +44,7 @@ handed_settled s t (Class choice w) h = ap (λ x. x.settled) h.3
 handed_settled s t (Wide choice step number) h = ap (λ x. x.settled) h.3
 handed_settled s t (Far face) (key, ends, h, last, stop, totals) = ap (λ x. x.settled) totals
 
-pub handed_shared : (s : Shared) (t : State) (o : Outcome) → IsHandedOut s.board t o → IsSound t → IsShared s → IsShared (record s { board = t })
+handed_shared : (s : Shared) (t : State) (o : Outcome) → IsHandedOut s.board t o → IsSound t → IsShared s → IsShared (record s { board = t })
 handed_shared s t o h sound shared = record {
   sound = sound;
   under_way = λ l on. fewer_under_way l s.board t fewer (shared.under_way l record { geometry = on.geometry ∙ fewer.geometry; start = on.start; width = on.width });
@@ -62,6 +53,11 @@ handed_shared s t o h sound shared = record {
   where
     fewer : IsFewer s.board t
     fewer = fewer_handed s.board t o h
+
+-- one outcome after the other
+pub row_shared : (s : Shared) (t : State) (os : List Outcome) → AreHandedOut s.board t os → IsShared s → IsShared (record s { board = t })
+row_shared s t [] same shared = subst (λ (b : State). IsShared (record s { board = b })) (sym same) shared
+row_shared s t (o ∷ os) (u, told, sound, later) shared = row_shared (record s { board = u }) t os later (handed_shared s u o told sound shared)
 
 -- ---- a new board
 

@@ -10,6 +10,7 @@ mod listing;
 mod look;
 mod pool;
 mod probing;
+mod row;
 mod served;
 mod serving;
 mod shared_board;

@@ -1,12 +1,10 @@
 //! What is seen under the lock of a pool.
 
-use choice_board::Outcome;
-
 /// What the server of a pool sees in one moment under the lock.
-#[derive(Drop)]
+#[derive(Clone, Copy, Drop)]
 pub enum Look {
-    /// The outcome that comes next.
-    Next(Outcome),
+    /// A row was taken of what comes next.
+    Row,
     /// Nothing is left.
     Done,
     /// Nothing can be handed out yet.

@@ -10,6 +10,7 @@ ghost use Rattle.steal_workers.specs.Tallies.{IsSameTally};
 use crate::crew::{News, Told};
 use crate::listing::Listing;
 use crate::look::Look;
+use crate::row::Row;
 use crate::shared_board::SharedBoard;
 use crate::tally::{Stake, Tally};
 use crate::worker::Worker;
@@ -35,7 +36,7 @@ pub(crate) enum Found {
 }
 
 /// What workers share: a board, a store of certificates, and a shelf that lends items. A server writes what the board hands out. One moment under
-/// the lock is enough for each outcome, so the blocks are the same whatever the workers do.
+/// the lock is enough for each row of outcomes, so the blocks are the same whatever the workers do.
 #[derive(Drop)]
 pub struct Pool<'g, L: Ledger> {
     pub(crate) alloc: Global,
@@ -273,13 +274,20 @@ impl<'g, L: Ledger> Pool<'g, L> {
         self.offers.notify_all();
     }
 
-    /// What comes after the class that was written last, in one moment under the lock.
-    pub(crate) fn look<R: Wait>(&self, rt: &R, listing: &Listing<'_>, last: &Option<Choice>) -> Look
-        ensures { IsLook listing.now last.now result }
+    /// Takes what comes after the class that was written last, in one moment under the lock. What the row had is dropped.
+    pub(crate) fn look<R: Wait>(
+        &self,
+        rt: &R,
+        listing: &Listing<'_>,
+        last: &Option<Choice>,
+        row: &mut Row,
+    ) -> Look
+        ensures { IsLook listing.now last.now row.new result }
     {
+        row.clear();
         let mut guard = self.locked.lock(rt);
         let board = &mut *guard;
-        board.next(listing, last)
+        board.take(listing, last, row)
     }
 
     /// Whether the tally counts as many settled keys as the board of the pool. It does where it holds every part of the

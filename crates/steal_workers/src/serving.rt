@@ -13,6 +13,7 @@ ghost use Rattle.steal_workers.specs.Tallies.{IsSameTally, IsSameShare};
 use crate::listing::Listing;
 use crate::look::Look;
 use crate::pool::{Found, Pool};
+use crate::row::Row;
 use crate::served::Served;
 use crate::tally::{Stake, Tally};
 use crate::worker::Worker;
@@ -41,7 +42,7 @@ enum Turn {
 
 impl<'g, L: Ledger> Pool<'g, L> {
     /// Writes the blocks of the pool's classes, as worker 0, in order, and answers how that ends, with what it counted.
-    /// It writes what the board hands out, and waits for the workers where nothing can be handed out yet; where none
+    /// It writes what the board hands out, row by row, and waits for the workers where nothing can be handed out yet; where none
     /// is alive it probes the least open key itself. Where the locked board is not that of the listing, or another class
     /// was handed out last, it leaves that board and goes on alone, with a board of its own after the last class. At its
     /// end no key is given out any more, so the workers end.
@@ -113,18 +114,20 @@ impl<'g, L: Ledger> Pool<'g, L> {
         ensures tally { IsSameShare mine.old mine.new }
     {
         let mut writer = Writer::new(self.alloc, listing)?;
-        match self.write_outcomes(rt, &mut writer, mine, out, gate) {
+        let mut row = Row::new(self.alloc)?;
+        match self.write_outcomes(rt, &mut writer, &mut row, mine, out, gate) {
             Ok(()) => Ok(writer.finish()),
             Err(served) => Ok(served),
         }
     }
 
-    /// Writes what the board hands out, until nothing is left or the limit is reached. Where the board is not the
+    /// Writes what the board hands out, row by row, until nothing is left or the limit is reached. Where the board is not the
     /// server's own, it goes on alone.
     fn write_outcomes<R: Wait, K: Sink, G: Gate>(
         &self,
         rt: &R,
         writer: &mut Writer<'_, 'g>,
+        row: &mut Row,
         mine: &mut Tally<L>,
         out: &mut K,
         gate: &G,
@@ -145,7 +148,7 @@ impl<'g, L: Ledger> Pool<'g, L> {
         for _ in rt.forever() {
             gate.at(0, turn);
             turn = turn.saturating_add(1);
-            match self.serve_turn(rt, writer, &mut helper, mine, out)? {
+            match self.serve_turn(rt, writer, row, &mut helper, mine, out)? {
                 Turn::More => {}
                 Turn::Done => return Ok(()),
                 Turn::Foreign => {
@@ -157,11 +160,13 @@ impl<'g, L: Ledger> Pool<'g, L> {
         unreachable!()
     }
 
-    /// One turn of the server.
+    /// One turn of the server: it takes a row of outcomes under the lock of the pool, and writes it outside. Where the limit is
+    /// reached within the row, the rest of it is lost, so the full writer comes first.
     fn serve_turn<'s, R: Wait, K: Sink>(
         &'s self,
         rt: &R,
         writer: &mut Writer<'_, 'g>,
+        row: &mut Row,
         helper: &mut Option<Worker<'s, 'g>>,
         mine: &mut Tally<L>,
         out: &mut K,
@@ -184,9 +189,9 @@ impl<'g, L: Ledger> Pool<'g, L> {
             return Ok(Turn::Done);
         }
         let seen = self.outcomes.notifications();
-        match self.look(rt, writer.listing(), writer.last()) {
-            Look::Next(outcome) => {
-                writer.write(outcome, out)?;
+        match self.look(rt, writer.listing(), writer.last(), row) {
+            Look::Row => {
+                writer.write_row(row, out)?;
                 return Ok(Turn::More);
             }
             Look::Done => return Ok(Turn::Done),

@@ -1,15 +1,16 @@
 //! The board of a pool, with what is locked beside it.
-ghost use Rattle.std.specs.Prelude.{◌≡◌, ◌<◌, ◌↔◌, true, length, IsTrue, IfSome};
+ghost use Rattle.std.specs.Prelude.{◌≡◌, ◌<◌, ◌↔◌, true, [], length, IsTrue, IfSome};
 ghost use Rattle.choice_board.specs.Starts.{new_board};
 ghost use Rattle.choice_board.specs.States.{IsSound};
 ghost use Rattle.steal_workers.specs.Boards.{IsOver};
 ghost use Rattle.steal_workers.specs.Probing.{IsVerdictOn};
-ghost use Rattle.steal_workers.specs.Shared.{IsListedOn, IsLook, IsSameListing};
+ghost use Rattle.steal_workers.specs.Shared.{AreHandedOut, IsListedOn, IsLook, IsSameListing};
 ghost use Rattle.steal_workers.specs.Tallies.{IsSameTally};
 
 use crate::crew::{Crew, News};
 use crate::listing::Listing;
 use crate::look::Look;
+use crate::row::Row;
 use crate::tally::Tally;
 use choice_board::{Board, Settled, Verdict};
 use ntfe_model::{Choice, Geometry, Key};
@@ -20,7 +21,7 @@ use std::sync::ledger::{Book, Ledger};
 
 /// What lies under the lock of a pool: the board, the width and start of its pool, and the sum of all that its workers
 /// booked. All that waits on the board may be come to from that start at that width, so one moment under the lock is
-/// enough for whoever writes what it hands out.
+/// enough for whoever writes what it hands out then.
 #[derive(Drop)]
 pub struct SharedBoard<L: Ledger> {
     board: Board,
@@ -90,6 +91,19 @@ fn least_place(keys: &[Key]) -> Option<usize>
         }
     }
     Some(least)
+}
+
+/// Takes what the board hands out, as far as the row has room.
+fn fill(row: &mut Row, board: &mut Board)
+    requires { row.old ≡ [] }
+    ensures { AreHandedOut board.old board.new row.new }
+{
+    while !row.is_full() {
+        let Some(outcome) = board.ready() else {
+            return;
+        };
+        row.push(outcome);
+    }
 }
 
 impl<L: Ledger> SharedBoard<L> {
@@ -182,15 +196,17 @@ impl<L: Ledger> SharedBoard<L> {
             && is_last_of(&self.board, last)
     }
 
-    /// What comes after the class that was written last, for the server of the listing.
-    pub fn next(&mut self, listing: &Listing<'_>, last: &Option<Choice>) -> Look
-        ensures look { IsLook listing.now last.now result }
+    /// Takes what comes after the class that was written last, for the server of the listing. Takes no memory.
+    pub fn take(&mut self, listing: &Listing<'_>, last: &Option<Choice>, row: &mut Row) -> Look
+        requires empty { row.old ≡ [] }
+        ensures look { IsLook listing.now last.now row.new result }
     {
         if !self.is_at(listing, last) {
             return Look::Foreign;
         }
-        if let Some(outcome) = self.board.ready() {
-            return Look::Next(outcome);
+        fill(row, &mut self.board);
+        if !row.is_empty() {
+            return Look::Row;
         }
         if self.is_over() {
             return Look::Done;

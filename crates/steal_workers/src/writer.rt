@@ -6,10 +6,13 @@ ghost use Rattle.ntfe_model.specs.RunText.{IsUnderLimit};
 ghost use Rattle.choice_board.specs.Settling.{counted};
 ghost use Rattle.steal_workers.specs.Listings.{Bytes, Progress, at_start, HasWritten, HasServed, IsAtLimit, IsNextOutcome, NoneIsLeft, GoesOn, EndsAs};
 ghost use Rattle.steal_workers.specs.Blocks.{MovesTo, WritesBlock};
+ghost use Rattle.steal_workers.specs.Boards.{IsPlace};
+ghost use Rattle.steal_workers.specs.Shared.{IsRow};
 ghost use Rattle.steal_workers.specs.Ends.{end_of};
 
 use crate::blocks::write_block;
 use crate::listing::Listing;
+use crate::row::Row;
 use crate::served::Served;
 use choice_board::Outcome;
 use io_edge::{LineFault, Sink};
@@ -179,6 +182,30 @@ impl<'l, 'g> Writer<'l, 'g> {
             }),
             Outcome::Far { face } => Err(Served::Far { face }),
         }
+    }
+
+    /// Writes the outcomes of a row in order, until it is empty or the limit is reached. What lies behind the limit stays
+    /// in the row.
+    ///
+    /// # Errors
+    /// How the list ends.
+    pub(crate) fn write_row<K: Sink>(&mut self, row: &mut Row, out: &mut K) -> Result<(), Served>
+        requires row { IsRow self.old.listed self.old.last row.old }
+        requires place { IsPlace self.old.listed self.old.last }
+        ensures listed { self.new.listed ≡ self.old.listed }
+        ensures on { OnOk result (GoesOn self.old self.new (record { before = K.taken out.old; after = K.taken out.new })) }
+        ensures place { OnOk result (IsPlace self.new.listed self.new.last) }
+        ensures ends { IfErr result (EndsAs self.old (record { before = K.taken out.old; after = K.taken out.new })) }
+        ensures cause { result ≡ Err Served.WriteFault → Rose (K.faults out.old) (K.faults out.new) }
+        ensures later { K.faults out.old ≤ K.faults out.new }
+    {
+        while !self.is_full() {
+            let Some(outcome) = row.pop() else {
+                return Ok(());
+            };
+            self.write(outcome, out)?;
+        }
+        Ok(())
     }
 
     /// How a list ends that is at its limit, or after whose last class no extendable choice is left.

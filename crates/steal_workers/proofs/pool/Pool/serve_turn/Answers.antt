@@ -2,12 +2,11 @@ use Rattle.std.proofs.Common.{◌≡◌, sym, subst, inl, inr, ℕ, List, Bool}
 use Rattle.std.specs.Prelude.{Option, MatchBool}
 use Rattle.std.proofs.lemmas.Result.{err_from_is_err_and}
 use Rattle.ntfe_model.specs.RunText.{IsUnderLimit}
-use Rattle.steal_workers.specs.Listings.{Listed, IsAtLimit, IsNextOutcome, NoneIsLeft, HasServed}
-use Rattle.steal_workers.specs.Shared.{IsKeyed}
+use Rattle.steal_workers.specs.Listings.{Listed, IsAtLimit, NoneIsLeft, HasServed}
+use Rattle.steal_workers.specs.Shared.{IsRow}
 use Rattle.steal_workers.specs.declared.served.Served.{Served}
 use Rattle.steal_workers.specs.declared.serving.Turn.{Turn}
 use Rattle.steal_workers.proofs.Ends.{part_written}
-use Rattle.steal_workers.proofs.LaterStarts.{moved_place}
 use Rattle.steal_workers.proofs.pool.Pool.serve_turn.Goals as goal
 
 pub returns-then-is_full-clause-on : goal.returns-then-is_full-clause-on
@@ -21,33 +20,28 @@ returns-then-is_full-clause-done g c e =
 pub returns-then-is_full-clause-place : goal.returns-then-is_full-clause-place
 returns-then-is_full-clause-place g c = c.requires.place
 
-pub write-requires-clause-under : goal.write-requires-clause-under
-write-requires-clause-under g c =
-    let w = c.args.writer.now in
-    subst (λ (b : Bool). MatchBool b (IsAtLimit w.listed.limit w.count) (IsUnderLimit w.listed.limit w.count)) c.if-is_full.false c.is_full.ensures
+pub write_row-requires-clause-row : goal.write_row-requires-clause-row
+write_row-requires-clause-row g c = subst (λ (x : Listed × Option (List ℕ)). IsRow x.0 x.1 c.look.new.row) (λ i. (c.listing.ensures i, c.last.ensures i)) c.in-Row.ensures
 
-pub write-requires-clause-next : goal.write-requires-clause-next
-write-requires-clause-next g c = subst (λ (x : Listed × Option (List ℕ)). IsNextOutcome x.0 x.1 c.in-Next.outcome) (λ i. (c.listing.ensures i, c.last.ensures i)) c.in-Next.ensures.0
+pub write_row-requires-clause-place : goal.write_row-requires-clause-place
+write_row-requires-clause-place g c = c.requires.place
 
-pub returns-in_err-write-in-Next-clause-ends : goal.returns-in_err-write-in-Next-clause-ends
-returns-in_err-write-in-Next-clause-ends g c =
+pub returns-in_err-write_row-in-Row-clause-ends : goal.returns-in_err-write_row-in-Row-clause-ends
+returns-in_err-write_row-in-Row-clause-ends g c =
     let p = err_from_is_err_and c.from_residual.result c.from_residual.ensures.1 in
-    rw (p.1, p.2) (λ earlier h. c.in_err-write-in-Next.ensures.ends earlier h)
+    rw (p.1, p.2) (λ earlier h. c.in_err-write_row-in-Row.ensures.ends earlier h)
 
-pub returns-in-Next-clause-on : goal.returns-in-Next-clause-on
-returns-in-Next-clause-on g c earlier h = c.in_ok-write-in-Next.ensures.on earlier h
+pub returns-in-Row-clause-on : goal.returns-in-Row-clause-on
+returns-in-Row-clause-on g c earlier h = c.in_ok-write_row-in-Row.ensures.on earlier h
 
-pub returns-in-Next-clause-place : goal.returns-in-Next-clause-place
-returns-in-Next-clause-place g c =
-    let w = c.args.writer.now in
-    let seen = subst (λ (x : Listed × Option (List ℕ)). IsNextOutcome x.0 x.1 c.in-Next.outcome × IsKeyed x.0.geometry c.in-Next.outcome) (λ i. (c.listing.ensures i, c.last.ensures i)) c.in-Next.ensures in
-    moved_place w c.write.new.self c.in-Next.outcome c.requires.place seen.0 seen.1 c.in_ok-write-in-Next.ensures.moved
+pub returns-in-Row-clause-place : goal.returns-in-Row-clause-place
+returns-in-Row-clause-place g c = c.in_ok-write_row-in-Row.ensures.place
+
+pub returns-in-Row-clause-done : goal.returns-in-Row-clause-done
+returns-in-Row-clause-done g c e = absurd (let x : Turn.More ≡ Turn.Done = e in cc)
 
 pub returns-in-Done-clause-on : goal.returns-in-Done-clause-on
 returns-in-Done-clause-on g c earlier h = h
-
-pub returns-in-Next-clause-done : goal.returns-in-Next-clause-done
-returns-in-Next-clause-done g c e = absurd (let x : Turn.More ≡ Turn.Done = e in cc)
 
 pub returns-in-Done-clause-place : goal.returns-in-Done-clause-place
 returns-in-Done-clause-place g c = c.requires.place
