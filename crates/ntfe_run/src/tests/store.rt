@@ -7,7 +7,7 @@ use crate::tests::pairs::TT;
 use fine_stream::OwnBook;
 use nogood_set::NogoodSet;
 use nogood_store::{Reader, Receipt, Store};
-use ntfe_model::{Geometry, Key, List, Nogood, Part};
+use ntfe_model::{Geometry, List, Nogood, Part};
 use std::alloc::{AllocError, Global};
 use std::sync::Wait;
 
@@ -30,29 +30,6 @@ fn added<'s>(
     let mut book = OwnBook::new(alloc, geometry)?;
     let mut reader = Reader::new(alloc);
     store.refresh(&mut reader, geometry, &mut book, set)
-}
-
-/// The entry of the set that blocks this key.
-fn blocking(alloc: Global, set: &NogoodSet, numbers: &[u32]) -> Result<Option<usize>, AllocError> {
-    let key = Key(List::from_vec(Vec::from_slice(alloc, numbers)?));
-    Ok(set.blocks(&key))
-}
-
-#[test]
-fn certificates_are_added_and_others_passed_over(rt: HostRuntime) -> Result<(), AllocError> {
-    let alloc = rt.alloc();
-    let store = Store::new(alloc)?;
-    let first = push(&rt, &store, three_squares(alloc, &[1, 1, 1])?)?;
-    let second = push(&rt, &store, three_squares(alloc, &[1, 1, 1])?)?;
-    push(&rt, &store, three_squares(alloc, &[1, 1, 2])?)?;
-    assert!(rt; store.read_own(&first).terms.as_slice().len() == 3);
-    assert!(rt; store.read_own(&second).terms.as_slice().len() == 3);
-    let geometry = geometry(alloc, TT)?;
-    let mut set = NogoodSet::new(alloc);
-    assert!(rt; added(alloc, &store, &geometry, &mut set)? == 2);
-    assert!(rt; blocking(alloc, &set, &[0, 0, 0, 0, 1])? == Some(0));
-    assert!(rt; blocking(alloc, &set, &[0, 0, 0, 0, 0])? == None);
-    Ok(())
 }
 
 /// A nogood with an item that the two-face does not have.
