@@ -19,7 +19,9 @@ pub struct Rows {
 
 impl Rows {
     /// No rows.
-    pub fn new(alloc: Global) -> Rows {
+    pub fn new(alloc: Global) -> Rows
+        ensures { result.extents.items ≡ [] }
+    {
         Rows {
             extents: Vec::new(alloc),
         }
@@ -85,7 +87,7 @@ impl Rows {
     }
 
     /// Whether a row has this second coordinate.
-    pub fn contain(&self, x2: i64) -> bool
+    pub fn contains(&self, x2: i64) -> bool
         requires { AreShortExtents self.now.extents.items }
         ensures { result ≡ false → ¬ (IsInSome self.now.extents.items x2) }
     {

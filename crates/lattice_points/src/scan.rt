@@ -97,7 +97,7 @@ fn scan_line(
     ensures adds { OnOk result (Adds pair.now (IsOnLine x1 x2) found.old found.new) }
     ensures most { OnOk result (found.new.count ≤ found.old.count + 2 ^ 22) }
 {
-    if !rows.contain(x2) {
+    if !rows.contains(x2) {
         return Ok(());
     }
     let extent = sums.third_extent(x1, x2, bounds.x3);

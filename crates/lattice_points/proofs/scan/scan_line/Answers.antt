@@ -25,12 +25,12 @@ scan_columns-requires-clause-all c = λ v k a.
     let p = c.args.pair.now in
     c.third_extent-extent.ensures.inside p.dual v c.requires.sums k.hull a (third_within p c.args.bounds.now v c.requires.bounds k)
 
-pub returns-then-not-contain-clause-adds : goal.returns-then-not-contain-clause-adds
-returns-then-not-contain-clause-adds c =
+pub returns-then-not-contains-clause-adds : goal.returns-then-not-contains-clause-adds
+returns-then-not-contains-clause-adds c =
     let a = c.args in
     let P : ℤ → Type 0 = λ y. IsInSome a.rows.now.extents.items y in
     adds_nothing a.pair.now (IsOnLine a.x1 a.x2) a.found.now
-    (λ q k s. c.contain.ensures c.if-not-contain.true (subst P (s.1 ∙ sym (to_z-of_z c.ranges.x2)) (c.requires.rows q.place k.inside s)))
+    (λ q k s. c.contains.ensures c.if-not-contains.true (subst P (s.1 ∙ sym (to_z-of_z c.ranges.x2)) (c.requires.rows q.place k.inside s)))
 
 pub returns-then-is_empty-clause-adds : goal.returns-then-is_empty-clause-adds
 returns-then-is_empty-clause-adds c =

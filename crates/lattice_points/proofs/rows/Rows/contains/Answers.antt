@@ -2,7 +2,7 @@ use Rattle.std.proofs.Common.{List, ℤ, subst, sym, w64, to_z, of_z, to_z-of_z}
 use Rattle.lattice_points.specs.Boxes.{IsInSome}
 use Rattle.lattice_points.specs.declared.bounds.Extent.{Extent}
 use Rattle.lattice_points.proofs.RowLemmas.{none_more, none_all}
-use Rattle.lattice_points.proofs.rows.Rows.contain.Goals as goal
+use Rattle.lattice_points.proofs.rows.Rows.contains.Goals as goal
 
 pub loop-extent-preserved : goal.loop-extent-preserved
 loop-extent-preserved c =
