@@ -1,7 +1,7 @@
 -- What is kept of the folds of a geometry's items.
 use Rattle.std.proofs.Common.{◌≡◌, ℕ, ◌+◌, ◌<◌, ◌∙◌, refl, sym, ap, subst, arith, List, [], ◌∷◌, ◌++◌, length, replicate, take, set, get_or}
-use Rattle.std.specs.Prelude.{Option, Some}
-use Rattle.std.proofs.lemmas.Option.{slice_get_read}
+use Rattle.std.specs.Prelude.{Option, Some, None}
+use Rattle.std.proofs.lemmas.Option.{slice_get_read, slice_get-get_or}
 use Rattle.std.proofs.lemmas.List.{set-get_or, length-map, get_or-map, take_more}
 use Rattle.ntfe_model.specs.Shapes.{Shape, no_face}
 use Rattle.ntfe_model.specs.Charts.{Patch, patch_of, patch_at}
@@ -12,11 +12,28 @@ use Rattle.ntfe_model.specs.declared.triangulation.Triangulation.{Triangulation}
 use Rattle.node_probe.specs.Heads.{AreHeadRows}
 use Rattle.node_probe.proofs.RowLemmas.{rows_step}
 use Rattle.node_probe.specs.declared.head.HeadRows.{HeadRows}
-use Rattle.node_probe.specs.Shelves.{patches, IsShelved, AreShelved, AddsItem}
+use Rattle.node_probe.specs.declared.shelf.KeptFolds.{KeptFolds}
+use Rattle.node_probe.specs.Shelves.{patches, IsShelved, AreShelved, HasFolds, AddsItem}
+use Rattle.strict_solver.proofs.Placing.{set_there}
 
 -- what stands at a place with folds, as it is read
-pub shelved_read : (h : Patch) (kept : List (Option (List Fold))) (n : ℕ) (o : Option (List Fold)) (rs : List Fold) → AreShelved h kept → n < length kept → o ≡ get_or kept n o → o ≡ Some rs → IsShelved h n rs
-shelved_read h kept n o rs a l e q = a n rs (slice_get_read kept (length kept) n o refl l e ∙ ap Some q)
+pub shelved_read : (h : Patch) (kept : List (Option KeptFolds)) (place : ℕ) (o : Option KeptFolds) (e : KeptFolds) → AreShelved h kept → place < length kept → o ≡ get_or kept place o → o ≡ Some e → IsShelved h e.number e.folds
+shelved_read h kept place o e a l p q = a place e (slice_get_read kept (length kept) place o refl l p ∙ ap Some q)
+
+-- folds that were put at a place stand there
+pub put_there : (kept : List (Option KeptFolds)) (place : ℕ) (e : KeptFolds) → place < length kept → HasFolds (set kept place (Some e)) place e.number
+put_there kept place e l = (e, set_there kept place (Some e) (get_or kept place None) (slice_get-get_or kept place None l), refl)
+
+-- the number beside the folds, if there are any
+number_there : Option (Option KeptFolds) → ℕ
+number_there None = 0
+number_there (Some None) = 0
+number_there (Some (Some e)) = e.number
+
+pub number_read : (kept : List (Option KeptFolds)) (place n : ℕ) (o : Option KeptFolds) (e : KeptFolds) → HasFolds kept place n → place < length kept → o ≡ get_or kept place o → o ≡ Some e → e.number ≡ n
+unfolding number_there
+number_read kept place n o e h l p q =
+    ap (λ (x : Option KeptFolds). number_there (Some x)) (sym q) ∙ ap number_there (sym (slice_get_read kept (length kept) place o refl l p) ∙ h.1) ∙ h.2
 
 pub adds_item : (h g : Patch) (n face : ℕ) (old new : HeadRows) (rs lent : List Fold) → h ≡ g → lent ≡ rs → IsShelved h n rs → new.folds.items ≡ old.folds.items ++ lent → new.faces.items ≡ old.faces.items ++ replicate (length lent) face
     → AddsItem g n face old new

@@ -7,6 +7,7 @@ use Rattle.ntfe_model.specs.Choices.{AreFolds, IsSmallFold}
 use Rattle.ntfe_model.specs.declared.triangulation.Triangulation.{Triangulation}
 use Rattle.ntfe_model.specs.declared.nogood.Fold.{Fold}
 use Rattle.node_probe.specs.declared.head.HeadRows.{HeadRows}
+use Rattle.node_probe.specs.declared.shelf.KeptFolds.{KeptFolds}
 
 -- the patches of the geometry's two-faces, in their order
 abbrev pub patches : Shape → List Patch
@@ -19,17 +20,17 @@ pub record IsShelved (h : Patch) (n : ℕ) (rs : List Fold) : Type 0 where
   pub folds : AreFolds h item rs
   pub small : All IsSmallFold rs
 
--- what stands at the place of a number are the folds of the item with this number
-abbrev pub AreShelved : Patch → List (Option (List Fold)) → Type 0
-AreShelved h kept = (n : ℕ) (rs : List Fold) → slice_get kept n ≡ Some (Some rs) → IsShelved h n rs
+-- what stands at a place are the folds of the item whose number stands beside them
+abbrev pub AreShelved : Patch → List (Option KeptFolds) → Type 0
+AreShelved h kept = (place : ℕ) (e : KeptFolds) → slice_get kept place ≡ Some (Some e) → IsShelved h e.number e.folds
 
 -- no other folds stand there than before
-abbrev pub HasNoOthers : List (Option (List Fold)) → List (Option (List Fold)) → Type 0
-HasNoOthers old new = (n : ℕ) (rs : List Fold) → slice_get new n ≡ Some (Some rs) → slice_get old n ≡ Some (Some rs)
+abbrev pub HasNoOthers : List (Option KeptFolds) → List (Option KeptFolds) → Type 0
+HasNoOthers old new = (place : ℕ) (e : KeptFolds) → slice_get new place ≡ Some (Some e) → slice_get old place ≡ Some (Some e)
 
--- folds stand at the place
-abbrev pub HasFolds : List (Option (List Fold)) → ℕ → Type 0
-HasFolds kept n = (rs : List Fold) × (slice_get kept n ≡ Some (Some rs))
+-- the folds of the item with this number stand at the place
+abbrev pub HasFolds : List (Option KeptFolds) → ℕ → ℕ → Type 0
+HasFolds kept place n = (e : KeptFolds) × (slice_get kept place ≡ Some (Some e)) × (e.number ≡ n)
 
 -- the folds of the patch's item were added, with the number of its two-face
 pub record AddsItem (h : Patch) (n face : ℕ) (old new : HeadRows) : Type 0 where

@@ -18,8 +18,19 @@ use std::alloc::{AllocError, Global};
 use std::marker::Model;
 use std::mem;
 
+/// For how many items of a two-face folds are kept at a time. Whoever walks a two-face with more items makes the folds of one anew when it
+/// comes again: so the memory does not grow with a list.
+const PLACE_COUNT: u32 = 1024;
+
+/// The folds of the item with this number.
+#[derive(Drop)]
+pub struct KeptFolds {
+    pub number: u32,
+    pub folds: List<Fold>,
+}
+
 /// Makes the place, with nothing at it where it is new.
-fn make_place(kept: &mut Vec<Option<List<Fold>>>, place: usize) -> Result<(), AllocError>
+fn make_place(kept: &mut Vec<Option<KeptFolds>>, place: usize) -> Result<(), AllocError>
     requires { place < 2 ^ 32 }
     ensures same { HasNoOthers kept.old.items kept.new.items }
     ensures place { OnOk result (place < length kept.new.items) }
@@ -30,32 +41,36 @@ fn make_place(kept: &mut Vec<Option<List<Fold>>>, place: usize) -> Result<(), Al
     Ok(())
 }
 
-/// Keeps the folds of the item at the place of its number.
+/// Keeps the folds of the item, and tells where.
 fn keep_folds(
     alloc: Global,
     chart: &Chart,
-    kept: &mut Vec<Option<List<Fold>>>,
+    kept: &mut Vec<Option<KeptFolds>>,
     number: u32,
     item: &Triangulation,
-) -> Result<(), AllocError>
+) -> Result<usize, AllocError>
     requires item { IsItem chart.now number item.now }
     requires shelved { AreShelved chart.now kept.old.items }
     ensures shelved { AreShelved chart.now kept.new.items }
-    ensures folds { OnOk result (HasFolds kept.new.items number) }
+    ensures folds { IfOk result (λ place. HasFolds kept.new.items place number) }
 {
-    let place = number as usize;
+    let place = (number % PLACE_COUNT) as usize;
     make_place(kept, place)?;
-    if kept[place].is_none() {
-        kept[place] = Some(folds(alloc, chart, item)?);
+    if let Some(there) = &kept[place] {
+        if there.number == number {
+            return Ok(place);
+        }
     }
-    Ok(())
+    let folds = folds(alloc, chart, item)?;
+    kept[place] = Some(KeptFolds { number, folds });
+    Ok(place)
 }
 
-/// A two-face with the folds of its items that were asked for, by numbers. Contracts see the patch.
+/// A two-face with the folds of items that were asked for. Contracts see the patch.
 #[derive(Drop)]
 pub struct FaceShelf {
     chart: Chart,
-    kept: Vec<Option<List<Fold>>>,
+    kept: Vec<Option<KeptFolds>>,
 }
 
 impl Model for FaceShelf {
@@ -93,9 +108,9 @@ impl FaceShelf {
         ensures patch { self.new ≡ self.old }
         ensures rows { OnOk result (AddsItem self.old number face rows.old rows.new) }
     {
-        keep_folds(alloc, &self.chart, &mut self.kept, number, item)?;
-        let folds = self.kept[number as usize].as_ref().unwrap();
-        add_rows(rows, face, folds.as_slice())?;
+        let place = keep_folds(alloc, &self.chart, &mut self.kept, number, item)?;
+        let kept = self.kept[place].as_ref().unwrap();
+        add_rows(rows, face, kept.folds.as_slice())?;
         Ok(())
     }
 }
