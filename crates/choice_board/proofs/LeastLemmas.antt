@@ -26,6 +26,12 @@ last_is_least s sound k some e = ((n, omega arith, sym e), All-from_contains (λ
         (subst Q at (sound.falling i (length s.open_keys - 1) j less (omega arith)))))
         (let d : (i ≡ length s.open_keys - 1) ⊎ (i < length s.open_keys - 1) = grind arith in d)
 
+-- the last key of the row, whose length was read
+pub least_there : (s : State) (n : ℕ) → IsSound s → n ≡ length s.open_keys → 0 < length s.open_keys → IsLeastOpen s (get_or s.open_keys (n - 1) [])
+least_there s n sound e some =
+    last_is_least s sound (get_or s.open_keys (n - 1) []) some
+    (ap (λ m. get_or s.open_keys (m - 1) []) e ∙ get_or_default s.open_keys (length s.open_keys - 1) [] (get_or s.open_keys (n - 1) []) (omega arith))
+
 -- what `last` of the open keys answers
 pub last_answers : (s : State) (seen : List (List ℕ)) → IsSound s → s.closed ≡ false → seen ≡ s.open_keys → (r : Option (Bor (List ℕ)))
     → MatchOption r (length seen ≤ 0) (λ x. (0 < length seen) × HoldsAt (λ y. x.now ≡ y) seen (length seen - 1))
