@@ -1,13 +1,16 @@
 -- A key that is closed in code is settled as stated.
-use Rattle.std.proofs.Common.{◌≡◌, ◌≢◌, ◌∙◌, refl, sym, ap, subst, ◌⊎◌, inl, inr, ⊎_elim, ◌↔◌, ℕ, List, ◌++◌, get_or, Option, Some}
+use Rattle.std.proofs.Common.{◌≡◌, ◌≢◌, ◌∙◌, refl, sym, ap, subst, ◌⊎◌, inl, inr, ⊎_elim, ◌↔◌, ℕ, ◌<◌, List, [], ◌∷◌, ◌++◌, length, get_or, Option, Some, None}
 use Rattle.std.specs.Prelude.{Contains}
 use Rattle.std.specs.List.{remove}
+use Rattle.std.proofs.lemmas.List.{get_or_default}
 use Rattle.std.proofs.lemmas.List.Elements.{All-contains}
 use Rattle.ntfe_model.specs.Keys.{IsKey}
 use Rattle.ntfe_model.specs.declared.nogood.Nogood.{Nogood}
+use Rattle.ntfe_model.proofs.Listings.{Contains-here, Contains-there, Contains-cases, Contains-none}
 use Rattle.choice_board.specs.Verdicts.{IsTrueOf, opened_by, recorded_by, pruned_by}
 use Rattle.choice_board.specs.Rows.{IsFalling, IsFoundAt}
-use Rattle.choice_board.specs.Making.{record_made, pruned_made}
+use Rattle.choice_board.specs.Making.{new_by, raised_by, key_made, record_made, pruned_made}
+use Rattle.choice_board.specs.Places.{raised, first_under}
 use Rattle.choice_board.specs.States.{State, IsSound}
 use Rattle.choice_board.specs.Views.{state_of}
 use Rattle.choice_board.specs.Settling.{IsSettled, totals_taken}
@@ -15,11 +18,16 @@ use Rattle.choice_board.specs.declared.opening.Made.{Made}
 use Rattle.choice_board.specs.declared.record.Record.{Record}
 use Rattle.choice_board.specs.declared.totals.Totals.{Totals}
 use Rattle.choice_board.specs.declared.verdict.Verdict.{Verdict}
-use Rattle.choice_board.proofs.RowLemmas.{has_remove, falling_remove}
+use Rattle.choice_board.specs.declared.verdict.Verdict.TheVariants.{End, Pruned, Class, Wide, Far, Descend}
+use Rattle.choice_board.proofs.RowLemmas.{has_remove, falling_remove, some_is}
 use Rattle.choice_board.proofs.SettleLemmas.{not_recorded, settled_sound}
 
 pub at_place : (keys : List (List ℕ)) (key : List ℕ) (place : ℕ) → IsFoundAt (λ k. k) keys key place → Contains keys key
 at_place keys key place f = (place, f.0, f.1 key)
+
+-- the key that was read at a place of the row
+pub found_there : (keys : List (List ℕ)) (key : List ℕ) (place : ℕ) → place < length keys → key ≡ get_or keys place key → IsFoundAt (λ k. k) keys key place
+found_there keys key place l e = (l, λ d. get_or_default keys place d key l ∙ sym e)
 
 pub open_is_key : (s : State) (key : List ℕ) → IsSound s → Contains s.open_keys key → IsKey s.geometry key
 open_is_key s key sound has = All-contains (IsKey s.geometry) s.open_keys key sound.keys has
@@ -69,6 +77,28 @@ closed_sound s key v place made keys recorded pruned totals sound true_of k =
     settled_sound s (state_of s.geometry s.last keys recorded pruned s.stop s.closed totals) key v sound (at_place s.open_keys key place k.found) true_of
     (closed_is_settled s key v place made keys recorded pruned totals sound k) k.falling k.records_falling
 
+-- ---- the opened keys: a new one, and the key itself, raised
+
+no_more : (j k : List ℕ) → (Contains (j ∷ []) k) ↔ ((Some j ≡ Some k) ⊎ (None ≡ Some k))
+no_more j k = (
+  λ p. ⊎_elim (λ e. inl ((some_is j k).1 e)) (λ q. Contains-none k q) (Contains-cases k j [] p),
+  λ p. ⊎_elim (λ e. Contains-here k j [] ((some_is j k).0 e)) (λ e. cc) p,
+)
+
+one_more : (j i k : List ℕ) → (Contains (j ∷ i ∷ []) k) ↔ ((Some j ≡ Some k) ⊎ (Some i ≡ Some k))
+one_more j i k = (
+  λ p. ⊎_elim (λ e. inl ((some_is j k).1 e)) (λ q. inr (⊎_elim (λ e. (some_is i k).1 e) (λ r. Contains-none k r) (Contains-cases k i [] q))) (Contains-cases k j (i ∷ []) p),
+  λ p. ⊎_elim (λ e. Contains-here k j (i ∷ []) ((some_is j k).0 e)) (λ e. Contains-there k j (i ∷ []) (Contains-here k i [] ((some_is i k).0 e))) p,
+)
+
+pub opened_parts : (key : List ℕ) (v : Verdict) (k : List ℕ) → (Contains (opened_by key v) k) ↔ ((new_by key v ≡ Some k) ⊎ (raised_by key v ≡ Some k))
+opened_parts key End k = (λ p. Contains-none k p, λ p. ⊎_elim (λ e. cc) (λ e. cc) p)
+opened_parts key (Pruned n) k = no_more (raised key) k
+opened_parts key (Class w) k = no_more (raised key) k
+opened_parts key (Wide step number) k = no_more (raised key) k
+opened_parts key Far k = (λ p. Contains-none k p, λ p. ⊎_elim (λ e. cc) (λ e. cc) p)
+opened_parts key Descend k = one_more (first_under key) (raised key) k
+
 -- ---- from what the calls say
 
 pub found_here : (keys seen : List (List ℕ)) (key numbers : List ℕ) (place : ℕ) → seen ≡ keys → numbers ≡ key → IsFoundAt (λ k. k) seen numbers place → IsFoundAt (λ k. k) keys key place
@@ -91,12 +121,27 @@ pub removed_falls : (s : State) (room removed : List (List ℕ)) (key : List ℕ
 removed_falls s room removed key place sound p e f =
     subst (IsFalling (λ k. k)) (sym (f ∙ ap (λ xs. remove xs place) e)) (falling_remove (λ k. k) s.open_keys place key p.0 sound.falling)
 
-pub has_through : (removed was : List (List ℕ)) (news opened keys : List (List ℕ)) → removed ≡ was → news ≡ opened
-    → ((k : List ℕ) → (Contains keys k) ↔ (Contains removed k ⊎ Contains news k)) → (k : List ℕ) → (Contains keys k) ↔ (Contains was k ⊎ Contains opened k)
-has_through removed was news opened keys e f h k =
-    let P : List (List ℕ) → Type 0 = λ xs. (Contains keys k) ↔ (Contains xs k ⊎ Contains news k) in
-    let Q : List (List ℕ) → Type 0 = λ xs. (Contains keys k) ↔ (Contains was k ⊎ Contains xs k) in
-    subst Q f (subst P e (h k))
+pub has_through : (removed was first keys : List (List ℕ)) (new : Option (List ℕ)) (own key : List ℕ) (v : Verdict) (made : Made) → removed ≡ was → new ≡ new_by key v → own ≡ key
+    → key_made key made ≡ raised_by key v → ((k : List ℕ) → (Contains first k) ↔ (Contains removed k ⊎ (new ≡ Some k)))
+    → ((k : List ℕ) → (Contains keys k) ↔ (Contains first k ⊎ (key_made own made ≡ Some k))) → (k : List ℕ) → (Contains keys k) ↔ (Contains was k ⊎ Contains (opened_by key v) k)
+has_through removed was first keys new own key v made e f o m h g k = (there, back)
+  where
+    P : List (List ℕ) → Type 0
+    P xs = Contains xs k
+
+    same : key_made own made ≡ raised_by key v
+    same = ap (λ x. key_made x made) o ∙ m
+
+    there : Contains keys k → Contains was k ⊎ Contains (opened_by key v) k
+    there p =
+        ⊎_elim
+        (λ q. ⊎_elim (λ r. inl (subst P e r)) (λ r. inr ((opened_parts key v k).1 (inl (sym f ∙ r)))) ((h k).0 q))
+        (λ q. inr ((opened_parts key v k).1 (inr (sym same ∙ q))))
+        ((g k).0 p)
+
+    back : Contains was k ⊎ Contains (opened_by key v) k → Contains keys k
+    back (inl p) = (g k).1 (inl ((h k).1 (inl (subst P (sym e) p))))
+    back (inr p) = ⊎_elim (λ q. (g k).1 (inl ((h k).1 (inr (f ∙ q))))) (λ q. (g k).1 (inr (same ∙ q))) ((opened_parts key v k).0 p)
 
 pub records_through : (room was recorded : List Record) (own key : List ℕ) (made : Made) → room ≡ was → own ≡ key
     → ((r : Record) → (Contains recorded r) ↔ (Contains room r ⊎ (record_made own made ≡ Some r))) → (r : Record) → (Contains recorded r) ↔ (Contains was r ⊎ (record_made key made ≡ Some r))

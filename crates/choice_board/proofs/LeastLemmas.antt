@@ -4,8 +4,10 @@ use Rattle.std.specs.Prelude.{Contains}
 use Rattle.std.specs.List.{HoldsAt, range_with_len}
 use Rattle.std.proofs.lemmas.List.{get_or_default, take_all, take_more, nil_from_length}
 use Rattle.std.proofs.lemmas.List.FromFn.{length-map-range_with_len, take-map-range_with_len, get_or-map-range_with_len}
+use Rattle.std.proofs.lemmas.List.Elements.{All-contains}
 use Rattle.ntfe_model.specs.Lists.{IsBelow}
 use Rattle.ntfe_model.proofs.Listings.{All-from_contains}
+use Rattle.ntfe_model.proofs.Orders.{below_once}
 use Rattle.choice_board.specs.States.{State, IsSound}
 use Rattle.choice_board.specs.Telling.{IsLeastOpen}
 use denote.Ref.{Bor}
@@ -25,6 +27,19 @@ last_is_least s sound k some e = ((n, omega arith, sym e), All-from_contains (λ
         subst P (get_or_default s.open_keys (length s.open_keys - 1) j k (omega arith) ∙ sym e)
         (subst Q at (sound.falling i (length s.open_keys - 1) j less (omega arith)))))
         (let d : (i ≡ length s.open_keys - 1) ⊎ (i < length s.open_keys - 1) = grind arith in d)
+
+-- the last key of the row, whose length was read
+pub least_there : (s : State) (n : ℕ) → IsSound s → n ≡ length s.open_keys → 0 < length s.open_keys → IsLeastOpen s (get_or s.open_keys (n - 1) [])
+least_there s n sound e some =
+    last_is_least s sound (get_or s.open_keys (n - 1) []) some
+    (ap (λ m. get_or s.open_keys (m - 1) []) e ∙ get_or_default s.open_keys (length s.open_keys - 1) [] (get_or s.open_keys (n - 1) []) (omega arith))
+
+-- and no other key is the least
+pub least_only : (s : State) (j k : List ℕ) → IsLeastOpen s j → IsLeastOpen s k → j ≡ k
+least_only s j k a b =
+    ⊎_elim (λ e. e)
+    (λ p. ⊎_elim (λ e. sym e) (λ q. absurd (below_once k j p q)) (All-contains (λ i. (i ≡ j) ⊎ IsBelow j i) s.open_keys k a.1 b.0))
+    (All-contains (λ i. (i ≡ k) ⊎ IsBelow k i) s.open_keys j b.1 a.0)
 
 -- what `last` of the open keys answers
 pub last_answers : (s : State) (seen : List (List ℕ)) → IsSound s → s.closed ≡ false → seen ≡ s.open_keys → (r : Option (Bor (List ℕ)))

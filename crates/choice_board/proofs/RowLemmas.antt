@@ -1,5 +1,5 @@
 -- Rows with one thing more or less: their order, and what they have.
-use Rattle.std.proofs.Common.{◌≡◌, ◌≢◌, ◌∙◌, refl, sym, ap, subst, ◌⊎◌, inl, inr, ⊎_elim, ◌↔◌, ℕ, suc, ◌+◌, ◌<◌, ◌≤◌, List, [], ◌∷◌, ◌++◌, length, take, drop, get_or, map, arith, length-drop, drop-cons}
+use Rattle.std.proofs.Common.{◌≡◌, ◌≢◌, ◌∙◌, refl, sym, ap, subst, ◌⊎◌, inl, inr, ⊎_elim, ◌↔◌, ℕ, suc, ◌+◌, ◌<◌, ◌≤◌, List, [], ◌∷◌, ◌++◌, length, take, drop, get_or, map, Some, arith, length-drop, drop-cons}
 use Rattle.std.specs.Prelude.{AllPairs, Contains}
 use Rattle.std.specs.List.{insert, remove}
 use Rattle.std.proofs.lemmas.List.{get_or_default, take-append-drop, get_or-take, get_or-drop, length-take}
@@ -8,7 +8,7 @@ use Rattle.std.proofs.lemmas.List.Kept.{AllPairs-cons}
 use Rattle.ntfe_model.proofs.Lists.{Contains-from_map, pairs_first, pairs_across}
 use Rattle.ntfe_model.specs.Lists.{IsBelow}
 use Rattle.ntfe_model.proofs.Orders.{below_chain}
-use Rattle.ntfe_model.proofs.Listings.{Contains-here, Contains-there, Contains-cases, Contains-none, AllPairs-head, AllPairs-tail, AllPairs-append, All-from_contains}
+use Rattle.ntfe_model.proofs.Listings.{Contains-here, Contains-there, Contains-cases, AllPairs-head, AllPairs-tail, AllPairs-append, All-from_contains}
 use Rattle.choice_board.specs.Rows.{IsFalling, IsFoundAt, IsBetween, IsPlaceFor}
 use Rattle.choice_board.proofs.KeyOrder.{not_below_itself}
 
@@ -189,30 +189,10 @@ found_in {X} key row seen numbers i d e p =
     let P : List X → Type 0 = λ xs. (x : X) × Contains xs x × (key x ≡ numbers) in
     subst P e (get_or seen i d, Contains-get_or seen i d p.0, p.1 d)
 
--- ---- a thing goes over from one row to another
+-- ---- one thing more, by another name
 
-pub moved_has : {X : Type 0} (row new keys left : List X) (y : X) (before : X → Type 0) → keys ≡ left ++ y ∷ []
-    → ((x : X) → (Contains new x) ↔ ((x ≡ y) ⊎ Contains row x))
-    → ((x : X) → (Contains row x ⊎ Contains keys x) ↔ before x)
-    → (x : X) → (Contains new x ⊎ Contains left x) ↔ before x
-moved_has {X} row new keys left y before e has old x = (λ p. (old x).0 (there p), λ b. back ((old x).1 b))
-  where
-    in_keys : Contains (left ++ y ∷ []) x → Contains keys x
-    in_keys p = let P : List X → Type 0 = λ xs. Contains xs x in subst P (sym e) p
-
-    there : Contains new x ⊎ Contains left x → Contains row x ⊎ Contains keys x
-    there (inl p) = ⊎_elim (λ f. inr (in_keys (Contains-append_right left (y ∷ []) x (Contains-here x y [] f)))) (λ q. inl q) ((has x).0 p)
-    there (inr p) = inr (in_keys (Contains-append_left left (y ∷ []) x p))
-
-    back : Contains row x ⊎ Contains keys x → Contains new x ⊎ Contains left x
-    back (inl p) = inl ((has x).1 (inr p))
-    back (inr p) =
-        let P : List X → Type 0 = λ xs. Contains xs x in
-        ⊎_elim (λ q. inr q) (λ q. inl ((has x).1 (inl (⊎_elim (λ f. f) (λ r. Contains-none x r) (Contains-cases x y [] q))))) (Contains-append_cases left (y ∷ []) x (subst P e p))
-
-pub moved_all : {X : Type 0} (row left : List X) (before : X → Type 0) → length left ≡ 0 → ((x : X) → (Contains row x ⊎ Contains left x) ↔ before x)
-    → (x : X) → (Contains row x) ↔ before x
-moved_all row left before none all x = (λ p. (all x).0 (inl p), λ b. ⊎_elim (λ p. p) (λ p. absurd (let l = p.1 in omega arith)) ((all x).1 b))
+pub some_is : {X : Type 0} (q r : X) → (Some q ≡ Some r) ↔ (r ≡ q)
+some_is q r = (λ e. (let f : q ≡ r = cc in sym f), λ e. ap Some (sym e))
 
 pub has_other : {X : Type 0} {Y : X → Type 0} (row new : List X) (y : X) → ((x : X) → (Contains new x) ↔ ((x ≡ y) ⊎ Contains row x)) → ((x : X) → (Y x) ↔ (x ≡ y))
     → (x : X) → (Contains new x) ↔ (Contains row x ⊎ Y x)

@@ -1,11 +1,11 @@
 -- What a board hands out, and in which order.
-use Rattle.std.specs.Prelude.{◌≡◌, ℕ, ◌+◌, ◌-◌, ◌<◌, ◌⊎◌, List, [], ◌∷◌, ◌++◌, length, Some, None, All, Contains}
+use Rattle.std.specs.Prelude.{◌≡◌, ℕ, ◌+◌, ◌-◌, ◌<◌, ◌⊎◌, Bool, true, false, List, [], ◌∷◌, ◌++◌, length, Some, None, All, Contains}
 use Rattle.ntfe_model.specs.Lists.{IsBelow}
 use Rattle.ntfe_model.specs.Choices.{IsChoice}
 use Rattle.ntfe_model.specs.Keys.{IsAfter, BeginsWith}
 use Rattle.ntfe_model.specs.declared.nogood.Nogood.{Nogood}
 use Rattle.choice_board.specs.States.{State, IsTrueRecord}
-use Rattle.choice_board.specs.Settling.{counted}
+use Rattle.choice_board.specs.Settling.{counted, IsSettled}
 use Rattle.choice_board.specs.declared.outcome.Outcome.{Outcome}
 use Rattle.choice_board.specs.declared.outcome.Outcome.TheVariants.{Class, Wide, Far}
 use Rattle.choice_board.specs.declared.record.Record.{Record}
@@ -13,6 +13,7 @@ use Rattle.choice_board.specs.declared.record.Found.{Found}
 use Rattle.choice_board.specs.declared.record.Found.TheVariants.{Class as FoundClass, Wide as FoundWide, Far as FoundFar}
 use Rattle.choice_board.specs.declared.record.Stop.TheVariants.{Wide as StopWide, Far as StopFar}
 use Rattle.choice_board.specs.declared.totals.Totals.{Totals}
+use Rattle.choice_board.specs.declared.verdict.Verdict.{Verdict}
 
 -- what is told of a key where this was found
 abbrev pub outcome_told : List ℕ → Found → Outcome
@@ -23,6 +24,11 @@ outcome_told key FoundFar = Far (length key - 1)
 -- the least open key
 abbrev pub IsLeastOpen : State → List ℕ → Type 0
 IsLeastOpen s key = Contains s.open_keys key × All (λ j. (j ≡ key) ⊎ IsBelow key j) s.open_keys
+
+-- the least open key is closed with the verdict; else no key is given out, and nothing changes
+abbrev pub IsLeastSettled : State → State → Verdict → Bool → Type 0
+IsLeastSettled s t v true = (s.closed ≡ false) × ((key : List ℕ) × IsLeastOpen s key × IsSettled s t key v)
+IsLeastSettled s t v false = ((s.closed ≡ true) ⊎ (s.open_keys ≡ [])) × (t ≡ s)
 
 -- the least recorded outcome, and every open key is above it
 pub record IsNext (s : State) (r : Record) : Type 0 where

@@ -1,6 +1,6 @@
 //! The board: open keys, recorded outcomes and pruned keys of one geometry.
-use crate::changes::{insert_keys, make_room, put};
-use crate::opening::{choice_from, copied_keys, made_of, opened_keys};
+use crate::changes::{insert_new, make_room, put};
+use crate::opening::{choice_from, made_of, new_key};
 use crate::order::comes_first;
 use crate::outcome::{Outcome, outcome_of};
 use crate::record::{Record, Stop};
@@ -42,12 +42,12 @@ impl Model for Board {
 }
 
 impl Board {
-    ghost use Rattle.std.specs.Prelude.{◌≡◌, ◌↔◌, ◌⊎◌, true, false, [], None, Some, IfOk, IsTrue, MatchBool, MatchOption, OnErr};
+    ghost use Rattle.std.specs.Prelude.{◌≡◌, ◌↔◌, ◌⊎◌, ◌<◌, ℕ, List, length, slice_index_or, true, false, [], None, Some, IfOk, IsTrue, MatchBool, MatchOption, OnErr, OnOk};
     ghost use Rattle.ntfe_model.specs.Keys.{IsStart};
     ghost use Rattle.choice_board.specs.Starts.{new_board};
     ghost use Rattle.choice_board.specs.States.{IsSound};
-    ghost use Rattle.choice_board.specs.Settling.{IsSettledAs};
-    ghost use Rattle.choice_board.specs.Telling.{AreAllBlocked, HasNext, IsHandedOut, IsLeastOpen, IsWaiting};
+    ghost use Rattle.choice_board.specs.Settling.{IsSettled, IsSettledAs};
+    ghost use Rattle.choice_board.specs.Telling.{AreAllBlocked, HasNext, IsHandedOut, IsLeastOpen, IsLeastSettled, IsWaiting};
     ghost use Rattle.choice_board.specs.Verdicts.{IsTrueOf};
 
     /// A board on which all choices above `after` are open, or all choices where it is `None`.
@@ -142,18 +142,55 @@ impl Board {
             self.totals = self.totals.with_stale();
             return Ok(Settled::Stale);
         };
-        let opened = opened_keys(self.alloc, key, &verdict)?;
-        let news = copied_keys(self.alloc, opened.as_slice())?;
+        let opened = verdict.opened(self.alloc, key)?;
+        self.close_at(place, verdict)?;
+        Ok(Settled::Taken { opened })
+    }
+
+    /// Closes the least open key with the verdict, as [`settle`](Board::settle) does. False where no
+    /// key is open, or the board is closed; then nothing changes.
+    ///
+    /// # Errors
+    /// `AllocError` where memory is short. The board is as it was.
+    pub fn settle_least(&mut self, verdict: Verdict) -> Result<bool, AllocError>
+        requires { (k : List ℕ) → IsLeastOpen self.old k → IsTrueOf self.old.geometry k verdict }
+        ensures answer { IfOk result (λ a. IsLeastSettled self.old self.new verdict a) }
+        ensures error { OnErr result (self.new ≡ self.old) }
+        ensures sound { IsSound self.new }
+    {
+        if self.closed || self.keys.is_empty() {
+            return Ok(false);
+        }
+        let place = self.keys.len() - 1;
+        self.close_at(place, verdict)?;
+        Ok(true)
+    }
+
+    /// Closes the key at the place of the row with the verdict. It is moved to where it stays, and
+    /// takes no memory where it is raised.
+    fn close_at(&mut self, place: usize, verdict: Verdict) -> Result<(), AllocError>
+        requires place { place < length self.old.open_keys }
+        requires is_true { IsTrueOf self.old.geometry (slice_index_or self.old.open_keys place []) verdict }
+        ensures settled { OnOk result (IsSettled self.old self.new (slice_index_or self.old.open_keys place []) verdict) }
+        ensures error { OnErr result (self.new ≡ self.old) }
+        ensures sound { IsSound self.new }
+    {
+        let key = &self.keys[place];
+        let new = new_key(self.alloc, key, &verdict)?;
         let totals = self.totals.with_taken(&verdict);
         let made = made_of(self.alloc, key, verdict)?;
         make_room(&mut self.keys, &mut self.recorded, &mut self.pruned)?;
         let own = self.keys.remove(place);
-        insert_keys(&mut self.keys, news);
-        put(&mut self.recorded, &mut self.pruned, own, made);
+        insert_new(&mut self.keys, new);
+        put(
+            &mut self.keys,
+            &mut self.recorded,
+            &mut self.pruned,
+            own,
+            made,
+        );
         self.totals = totals;
-        Ok(Settled::Taken {
-            opened: List::from_vec(opened),
-        })
+        Ok(())
     }
 
     /// The least recorded outcome that was not handed out, which leaves the board. None where there

@@ -3,7 +3,7 @@ ghost use Rattle.std.specs.Prelude.{◌≡◌, ◌<◌, ◌≤◌, ◌^◌, ◌-
 ghost use Rattle.ntfe_model.specs.Keys.{last_number};
 ghost use Rattle.choice_board.specs.Places.{raised, first_under};
 ghost use Rattle.choice_board.specs.Verdicts.{opened_by, recorded_by, pruned_by};
-ghost use Rattle.choice_board.specs.Making.{record_made, pruned_made};
+ghost use Rattle.choice_board.specs.Making.{new_by, raised_by, key_made, record_made, pruned_made};
 
 use crate::record::Found;
 use crate::rows::Keyed;
@@ -11,11 +11,16 @@ use crate::verdict::Verdict;
 use ntfe_model::{Choice, Heights, Key, List, Nogood};
 use std::alloc::{AllocError, Global};
 
-/// What is kept of a key that is closed.
+/// What becomes of a key that is closed.
 #[derive(Drop)]
 pub enum Made {
+    /// It goes.
     Nothing,
+    /// It is raised, and stays open.
+    Raised,
+    /// This is recorded at it.
     Told(Found),
+    /// This blocks it.
     Blocked(Nogood),
 }
 
@@ -31,6 +36,19 @@ fn raised_key(alloc: Global, key: &Key) -> Result<Key, AllocError>
     items.extend_from_slice(&numbers[..stem])?;
     items.push(numbers[stem] + 1)?;
     Ok(Key(List::from_vec(items)))
+}
+
+/// The key with its last number raised by 1, in its own memory.
+pub fn raise(key: Key) -> Key
+    requires some { 1 ≤ length key }
+    requires small { last_number key < 2 ^ 32 - 1 }
+    ensures { result ≡ raised key }
+{
+    let Key(numbers) = key;
+    let mut items = numbers.into_vec();
+    let stem = items.len() - 1;
+    items[stem] += 1;
+    Key(List::from_vec(items))
 }
 
 /// The key followed by 0.
@@ -60,15 +78,18 @@ pub fn opened_keys(alloc: Global, key: &Key, verdict: &Verdict) -> Result<Vec<Ke
     Ok(keys)
 }
 
-/// Equal keys.
-pub fn copied_keys(alloc: Global, keys: &[Key]) -> Result<Vec<Key>, AllocError>
-    ensures { IfOk result (λ v. v.items ≡ keys.now) }
+/// The key that the verdict opens beside the closed key, which may be raised in its own memory.
+pub fn new_key(alloc: Global, key: &Key, verdict: &Verdict) -> Result<Option<Key>, AllocError>
+    requires some { 1 ≤ length key.now }
+    requires small { last_number key.now < 2 ^ 32 - 1 }
+    ensures { IfOk result (λ o. o ≡ new_by key.now verdict.now) }
 {
-    let mut copies = Vec::with_capacity(alloc, keys.len())?;
-    for key in keys {
-        copies.push(key.try_clone(alloc)?)?;
-    }
-    Ok(copies)
+    let key = match verdict {
+        Verdict::End | Verdict::Far => return Ok(None),
+        Verdict::Descend => key_under(alloc, key)?,
+        Verdict::Pruned(_) | Verdict::Class(_) | Verdict::Wide { .. } => raised_key(alloc, key)?,
+    };
+    Ok(Some(key))
 }
 
 /// A choice with the numbers of the key.
@@ -87,13 +108,15 @@ pub fn choice_from(key: Key) -> Choice
     Choice(numbers)
 }
 
-/// What the verdict leaves of the key.
+/// What becomes of the key by the verdict.
 pub fn made_of(alloc: Global, key: &Key, verdict: Verdict) -> Result<Made, AllocError>
+    ensures raised { IfOk result (λ m. key_made key.now m ≡ raised_by key.now verdict) }
     ensures recorded { IfOk result (λ m. record_made key.now m ≡ recorded_by key.now verdict) }
     ensures pruned { IfOk result (λ m. pruned_made key.now m ≡ pruned_by key.now verdict) }
 {
     match verdict {
-        Verdict::End | Verdict::Descend => Ok(Made::Nothing),
+        Verdict::End => Ok(Made::Nothing),
+        Verdict::Descend => Ok(Made::Raised),
         Verdict::Pruned(nogood) => Ok(Made::Blocked(nogood)),
         Verdict::Far => Ok(Made::Told(Found::Far)),
         Verdict::Class(heights) => {

@@ -1,8 +1,8 @@
 //! Examples of what no geometry is needed for.
 ghost use Rattle.std.specs.Prelude.{◌≡◌, IfOk};
 
-use crate::changes::insert_keys;
-use crate::opening::opened_keys;
+use crate::changes::insert_new;
+use crate::opening::{new_key, opened_keys, raise};
 use crate::order::comes_first;
 use crate::outcome::{Outcome, outcome_of};
 use crate::record::Found;
@@ -56,10 +56,8 @@ fn no_total_passes_its_most(rt: HostRuntime) {
 fn keys_stand_from_the_greatest_down(rt: HostRuntime) -> Result<(), AllocError> {
     let alloc = rt.alloc();
     let mut row = Vec::with_capacity(alloc, 2)?;
-    insert_keys(
-        &mut row,
-        vec![in alloc; key(alloc, &[0, 7])?, key(alloc, &[1])?]?,
-    );
+    insert_new(&mut row, Some(key(alloc, &[0, 7])?));
+    insert_new(&mut row, Some(key(alloc, &[1])?));
     assert!(rt; row.len() == 2 && row[0].numbers() == [1].as_slice());
     Ok(())
 }
@@ -70,6 +68,17 @@ fn a_key_is_gone_into(rt: HostRuntime) -> Result<(), AllocError> {
     let opened = opened_keys(alloc, &key(alloc, &[2])?, &Verdict::Descend)?;
     assert!(rt; opened.len() == 2 && opened[0].numbers() == [2, 0].as_slice());
     assert!(rt; opened[1].numbers() == [3].as_slice());
+    Ok(())
+}
+
+#[test]
+fn a_key_that_is_gone_into_stays_raised(rt: HostRuntime) -> Result<(), AllocError> {
+    let alloc = rt.alloc();
+    let inner = key(alloc, &[5, 2])?;
+    let mut row = Vec::with_capacity(alloc, 2)?;
+    insert_new(&mut row, new_key(alloc, &inner, &Verdict::Descend)?);
+    insert_new(&mut row, Some(raise(inner)));
+    assert!(rt; row.len() == 2 && row[0].numbers() == [5, 3].as_slice());
     Ok(())
 }
 

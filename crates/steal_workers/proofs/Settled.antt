@@ -1,5 +1,5 @@
 -- A settled key: the listing stays under way, and its least open key rises.
-use Rattle.std.proofs.Common.{◌≡◌, ℕ, ◌+◌, ◌-◌, ◌<◌, ◌≤◌, ◌⊎◌, ⊎_elim, sym, ◌∙◌, subst, arith, List, [], ◌∷◌, length}
+use Rattle.std.proofs.Common.{◌≡◌, refl, ℕ, ◌+◌, ◌-◌, ◌<◌, ◌≤◌, ◌⊎◌, ⊎_elim, sym, ◌∙◌, subst, arith, Bool, true, false, List, [], ◌∷◌, length}
 use Rattle.std.specs.Prelude.{Contains, All}
 use Rattle.std.proofs.lemmas.List.Elements.{All-contains, All-append, All-weaker, All-cons, All-nil}
 use Rattle.ntfe_model.specs.Lists.{IsBelow}
@@ -12,12 +12,13 @@ use Rattle.choice_board.specs.States.{State, IsSound}
 use Rattle.choice_board.specs.Settling.{IsSettled, IsSettledAs}
 use Rattle.choice_board.specs.declared.verdict.Settled.{Settled}
 use Rattle.choice_board.specs.declared.verdict.Settled.TheVariants.{Stale, Taken}
-use Rattle.choice_board.specs.Telling.{IsLeastOpen}
+use Rattle.choice_board.specs.Telling.{IsLeastOpen, IsLeastSettled}
 use Rattle.choice_board.specs.declared.verdict.Verdict.{Verdict}
 use Rattle.choice_board.specs.declared.verdict.Verdict.TheVariants.{End, Pruned, Class, Wide, Far, Descend}
+use Rattle.choice_board.proofs.LeastLemmas.{least_only}
 use Rattle.choice_board.proofs.PlaceLemmas.{key_parts, below_raised, below_first}
 use Rattle.steal_workers.specs.Listings.{Listed}
-use Rattle.steal_workers.specs.Boards.{IsUnderWay, IsLiveRecord, IsOneOn, StaysUnderWay, key_base, key_power, key_value, least_value}
+use Rattle.steal_workers.specs.Boards.{IsUnderWay, IsLiveRecord, IsOneOn, HasSettledLeast, StaysUnderWay, key_base, key_power, key_value, least_value}
 use Rattle.steal_workers.specs.Probing.{IsProbed}
 use Rattle.steal_workers.proofs.KeyValues.{value_small, value_rises, least_most, least_above, least_bound}
 use Rattle.steal_workers.proofs.LiveKeys.{opened_live, recorded_live}
@@ -80,18 +81,23 @@ least_rises s t key v sound later least z = chain (least_most n s.open_keys key 
         value_rises n key j is_key.at_most k.at_most (key_small s.geometry key is_key) (key_small s.geometry j k)
         (⊎_elim (λ old. ⊎_elim (λ e. absurd (old.1 e)) (λ b. b) (All-contains (λ i. (i ≡ key) ⊎ IsBelow key i) s.open_keys j least.1 old.0)) (λ new. above_settled key v is_key.some j new) ((z.open_keys j).0 c))
 
--- ---- the least open key is settled
-
-pub settled_least : (s t : State) (key : List ℕ) (v : Verdict) (a : Settled) → IsSound s → IsSound t → IsLeastOpen s key → IsSettledAs s t key v a → IsOneOn s t
-settled_least s t key v Stale sound later least z = absurd (z.0 least.0)
-settled_least s t key v (Taken opened) sound later least z =
-    record { geometry = z.1.geometry; last = z.1.last; stop = z.1.stop; closed = z.1.closed; rises = least_rises s t key v sound later least z.1 }
-
 -- a listing stays under way, whether the verdict came in time or too late
 pub stays_under_way : (g : Shape) (width : ℕ) (s t : State) (key : List ℕ) (v : Verdict) (a : Settled) → IsSound s → IsProbed g width key v → IsSettledAs s t key v a → StaysUnderWay g width s t
 stays_under_way g width s t key v Stale sound probed z l same wide u = subst (IsUnderWay l) (sym z.1) record { geometry = u.geometry; keys = u.keys; records = u.records }
 stays_under_way g width s t key v (Taken opened) sound probed z l same wide u =
     under_way_settled l s t key v sound u z.0 (subst (λ (x : Shape × ℕ). IsProbed x.0 x.1 key v) (λ i. (sym same i, sym wide i)) probed) z.1
+
+-- ---- the least open key is settled
+
+pub settled_least : (s t : State) (v : Verdict) (b : Bool) → IsSound s → IsSound t → s.closed ≡ false → IsLeastSettled s t v b → HasSettledLeast s t b
+settled_least s t v true sound later given (_, (key, least, z)) = record { geometry = z.geometry; last = z.last; stop = z.stop; closed = z.closed; rises = least_rises s t key v sound later least z }
+settled_least s t v false sound later given (none, same) = (same, ⊎_elim (λ e. (let f : true ≡ false = sym e ∙ given in cc)) (λ e. e) none)
+
+-- a listing stays under way when the least key was probed and settled
+pub least_under_way : (g : Shape) (width : ℕ) (s t : State) (key : List ℕ) (v : Verdict) (b : Bool) → IsSound s → IsLeastOpen s key → IsProbed g width key v → IsLeastSettled s t v b → StaysUnderWay g width s t
+least_under_way g width s t key v true sound least probed (_, (k, first, z)) l own wide u =
+    stays_under_way g width s t k v (Taken (opened_by k v)) sound (subst (λ (j : List ℕ). IsProbed g width j v) (least_only s key k least first) probed) (first.0, z, refl) l own wide u
+least_under_way g width s t key v false sound least probed (_, same) l own wide u = subst (IsUnderWay l) (sym same) u
 
 -- what is left of a listing falls with each settled key
 pub left_falls : (g : Shape) (s t u : State) → t.geometry ≡ g → t.open_keys ≡ s.open_keys → IsOneOn t u

@@ -44,7 +44,6 @@ fn write_ready<K: Sink>(
 
 /// Probes and settles the least open key; false where no key is open.
 fn settle_least<B: Book>(
-    alloc: Global,
     prober: &mut Prober<'_>,
     book: &mut B,
     set: &NogoodSet<'_>,
@@ -63,16 +62,13 @@ fn settle_least<B: Book>(
     let Some(key) = board.least() else {
         return Ok(false);
     };
-    let key = key.try_clone(alloc)?;
-    let verdict = prober.find(&key, book, set)?;
-    board.settle(&key, verdict)?;
-    Ok(true)
+    let verdict = prober.find(key, book, set)?;
+    board.settle_least(verdict)
 }
 
 /// Settles the least open key until none is left, and writes what is ready before each, until the
 /// limit is reached.
 pub fn list_all<B: Book, K: Sink>(
-    alloc: Global,
     writer: &mut Writer<'_, '_>,
     prober: &mut Prober<'_>,
     book: &mut B,
@@ -99,7 +95,7 @@ pub fn list_all<B: Book, K: Sink>(
         if writer.is_full() {
             return Ok(());
         }
-        match settle_least(alloc, prober, book, set, board) {
+        match settle_least(prober, book, set, board) {
             Ok(true) => {}
             Ok(false) => return Ok(()),
             Err(_) => return Err(Served::Memory),
@@ -128,7 +124,7 @@ fn list<B: Book, K: Sink>(
     let mut board = Board::new(alloc, geometry, start)?;
     let mut writer = Writer::new(alloc, listing)?;
     let mut prober = Prober::new(alloc, listing.geometry(), listing.width())?;
-    match list_all(alloc, &mut writer, &mut prober, book, set, &mut board, out) {
+    match list_all(&mut writer, &mut prober, book, set, &mut board, out) {
         Ok(()) => Ok(writer.finish()),
         Err(served) => Ok(served),
     }

@@ -354,7 +354,6 @@ impl<'s, 'g> Worker<'s, 'g> {
         ensures later { K.faults out.old ≤ K.faults out.new }
     {
         list_all(
-            self.alloc,
             writer,
             &mut self.prober,
             &mut self.book,
