@@ -57,7 +57,8 @@ fn take_back(stems: &mut Vec<Stem>, columns: u32, last: usize, count: usize) -> 
     0
 }
 
-/// Brings those stems of the path to its front that are still needed, so that the others are free. The answer is the new place of the last one.
+/// Brings those stems of the path to its front that are still needed, so that the others are free. The answer is the new place of
+/// the last one.
 fn thin(stems: &mut Vec<Stem>, columns: u32, last: usize, faces: &[u32], count: usize) -> usize
     requires columns { All (λ v. v.columns ≡ columns) stems.old.items }
     requires within { last < length stems.old.items }
@@ -148,7 +149,8 @@ fn push_at(
     stems[level].extend(folds, row, row + 1)
 }
 
-/// Lets the stem go on with one more row. Where that changes its numbers, the spare one stands where it did, and the second answer is true.
+/// Lets the stem go on with one more row. Where that changes its numbers, the spare one stands where it did, and the second
+/// answer is true.
 fn push_aside(
     stem: &mut Stem,
     spare: &mut Stem,
@@ -166,8 +168,8 @@ fn push_aside(
     stem.push_aside(&folds[row], spare)
 }
 
-/// Lets the stem at this level go on with one more row. Where that changes its numbers, the stem above stands where it did, and the second
-/// answer is true.
+/// Lets the stem at this level go on with one more row. Where that changes its numbers, the stem above stands where it did, and
+/// the second answer is true.
 fn push_beside(
     stems: &mut Vec<Stem>,
     columns: u32,
@@ -188,8 +190,8 @@ fn push_beside(
     push_aside(&mut path[level], &mut free[0], folds, row)
 }
 
-/// The stems of the key that was probed last: each stands for more of its first rows than the one below it. The last one is its end, and those
-/// above are free. Contracts see the number of heights and the last stem.
+/// The stems of the key that was probed last, a path: each stands for more of its first rows than the one below it, and the last
+/// one for all of them. Those above are free. Contracts see the number of heights and the last stem.
 #[derive(Drop)]
 pub struct Stems {
     alloc: Global,
@@ -236,7 +238,8 @@ impl Stems {
         })
     }
 
-    /// Lets the last stem go on with one more row. Where that changes its numbers, and there is room, a stem that stands where it did stays below.
+    /// Lets the last stem go on with one more row. Where that changes its numbers, and there is room, one that stands where it did
+    /// stays below.
     fn push(&mut self, folds: &[Fold], row: usize) -> Result<Pushed, AllocError>
         requires known { IsLastAfter self.old folds.now row Feasible }
         requires row { row < length folds.now }
@@ -274,8 +277,8 @@ impl Stems {
         Ok(Pushed::Feasible)
     }
 
-    /// Lets the run go on from the key before, as far as the rows are the same. The last stem stands for the rows then, or has multipliers with
-    /// which they cancel, or nothing is known.
+    /// Lets the run go on from the key before, as far as the rows are the same. The last stem stands for the rows then, or has
+    /// multipliers with which they cancel, or nothing is known.
     ///
     /// # Errors
     /// `AllocError` where memory is short.

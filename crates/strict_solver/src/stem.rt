@@ -297,7 +297,7 @@ impl Stem {
     /// the second answer is true.
     ///
     /// # Errors
-    /// `AllocError` where memory is short. Then nothing is known of this stem, or it is as it was and nothing is known of the spare one.
+    /// `AllocError` where memory is short. Then nothing is known of this stem, or nothing of the spare one.
     pub fn push_aside(
         &mut self,
         fold: &Fold,

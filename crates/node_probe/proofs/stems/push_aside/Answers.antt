@@ -1,8 +1,6 @@
-use Rattle.std.proofs.Common.{◌≡◌, ◌+◌, ◌<◌, sym, refl, ℕ, Bool, List, take, get_or, Some, Result, Ok, Err, IfOk}
+use Rattle.std.proofs.Common.{◌+◌, sym, refl, Bool, get_or, Result, Ok, Err, IfOk}
 use Rattle.std.specs.declared.alloc.AllocError.{AllocError}
-use Rattle.ntfe_model.specs.declared.nogood.Fold.{Fold}
 use Rattle.strict_solver.specs.declared.stem.Pushed.{Pushed}
-use Rattle.strict_solver.specs.Stems.{StemValue}
 use Rattle.strict_solver.specs.Pushes.{HasPushed, HasExtended}
 use Rattle.strict_solver.proofs.Elimination.{at_place}
 use Rattle.strict_solver.proofs.Extending.{no_fold}

@@ -1,4 +1,4 @@
-use Rattle.std.proofs.Common.{◌≡◌, ℕ, ◌++◌, ◌∷◌, [], sym, subst, refl, List}
+use Rattle.std.proofs.Common.{sym, subst, refl, List}
 use Rattle.ntfe_model.specs.declared.nogood.Fold.{Fold}
 use Rattle.strict_solver.specs.declared.basis.Basis.{Basis}
 use Rattle.strict_solver.specs.Starts.{AreFoldsOver}
