@@ -1,9 +1,11 @@
-//! The stems of a key: where the run ends on the folds of its first two-faces.
+//! The stems of a key: where the run ends on its first rows.
 ghost use Rattle.std.specs.Prelude.{◌≡◌, ◌+◌, ◌^◌, ◌<◌, ◌≤◌, take, length, slice_get, All, Some, IfOk};
+ghost use Rattle.std.specs.Bool.{OnTrue};
 ghost use Rattle.strict_solver.specs.Starts.{AreFoldsOver};
 ghost use Rattle.strict_solver.specs.Stems.{StemValue};
+ghost use Rattle.strict_solver.specs.declared.stem.Pushed.TheVariants.{Feasible};
 ghost use Rattle.strict_solver.specs.Pushes.{HasExtended};
-ghost use Rattle.node_probe.specs.Stems.{HasStem, HasGone, HasFollowed};
+ghost use Rattle.node_probe.specs.Stems.{HasGone, HasFollowed, IsLastAfter};
 
 use crate::head::HeadRows;
 use ntfe_model::Fold;
@@ -11,100 +13,192 @@ use std::alloc::{AllocError, Global};
 use std::marker::Model;
 use strict_solver::{Pushed, Stem};
 
-/// How many of the rows are of the first two-faces, up to this one.
-fn rows_to(faces: &[u32], face: usize) -> usize
-    ensures { result ≤ length faces.now }
+/// So many stems may be kept beside one for each two-face.
+const MOST_ASIDE: usize = 64;
+
+/// The stems are to have no more numbers than these, 128 MB, where one for each two-face does not need them.
+const MOST_NUMBERS: usize = 1 << 24;
+
+/// How many stems are kept at most.
+fn most_stems(columns: u32, faces: usize) -> usize
+    requires { columns ≤ 400 }
 {
-    let mut count = 0;
-    while count < faces.len() && faces[count] as usize <= face {
-        count += 1;
+    let columns = columns as usize;
+    let many = MOST_NUMBERS / (columns * (columns + 2) + 1);
+    let least = faces.saturating_add(2);
+    least.max(many.min(least.saturating_add(MOST_ASIDE)))
+}
+
+/// Whether a stem is needed below the next one, where their numbers changed last at so many rows: where a two-face begins in
+/// between, since another item of it goes on from there, and in the last two-face always.
+fn is_needed(faces: &[u32], count: usize, from: usize, to: usize) -> bool {
+    if from == 0 || from > to || to > faces.len() {
+        return true;
     }
-    count
+    let face = faces[to - 1];
+    faces[from - 1] != face || face as usize + 1 >= count
 }
 
-/// How many numbers the lists begin with in common.
-fn common_count(left: &[u32], right: &[u32]) -> usize
-    ensures { result ≤ length right.now }
-{
-    let mut count = 0;
-    while count < left.len() && count < right.len() && left[count] == right[count] {
-        count += 1;
-    }
-    count
-}
-
-/// Lets the stem of one more two-face go on from that of those before.
-fn go_on(
-    stem: &mut Stem,
-    before: &Stem,
-    folds: &[Fold],
-    from: usize,
-    to: usize,
-) -> Result<Pushed, AllocError>
-    requires same { before.now.columns ≡ stem.old.columns }
-    requires known { before.now.folds ≡ Some (take from folds.now) }
-    requires from { from ≤ to }
-    requires to { to ≤ length folds.now }
-    requires folds { AreFoldsOver stem.old.columns folds.now }
-    ensures columns { stem.new.columns ≡ stem.old.columns }
-    ensures extended { IfOk result (λ p. HasExtended stem.new folds.now to p) }
-{
-    stem.copy_from(before)?;
-    stem.extend(folds, from, to)
-}
-
-/// Lets the stem after this one go on from it.
-fn go_level(
-    stems: &mut Vec<Stem>,
-    columns: u32,
-    level: usize,
-    folds: &[Fold],
-    from: usize,
-    to: usize,
-) -> Result<Pushed, AllocError>
+/// Takes back rows behind so many from the highest stem of the path that allows it. That is the last one now.
+fn take_back(stems: &mut Vec<Stem>, columns: u32, last: usize, count: usize) -> usize
     requires columns { All (λ v. v.columns ≡ columns) stems.old.items }
-    requires within { level + 1 < length stems.old.items }
-    requires known { HasStem stems.old.items level folds.now from }
-    requires from { from ≤ to }
-    requires to { to ≤ length folds.now }
-    requires folds { AreFoldsOver columns folds.now }
+    requires within { last < length stems.old.items }
     ensures count { length stems.new.items ≡ length stems.old.items }
     ensures columns { All (λ v. v.columns ≡ columns) stems.new.items }
-    ensures extended { IfOk result (λ p. HasGone stems.new.items (level + 1) folds.now to p) }
+    ensures level { result ≤ last }
 {
-    let (before, after) = stems.split_at_mut(level + 1);
-    go_on(&mut after[0], &before[level], folds, from, to)
+    let mut level = last + 1;
+    while level > 0 {
+        level -= 1;
+        if stems[level].truncate(count) {
+            return level;
+        }
+    }
+    0
 }
 
-/// The stem at this level, or the first one, and how many of the rows it stands for.
+/// Brings those stems of the path to its front that are still needed, so that the others are free. The answer is the new place of
+/// the last one.
+fn thin(stems: &mut Vec<Stem>, columns: u32, last: usize, faces: &[u32], count: usize) -> usize
+    requires columns { All (λ v. v.columns ≡ columns) stems.old.items }
+    requires within { last < length stems.old.items }
+    ensures count { length stems.new.items ≡ length stems.old.items }
+    ensures columns { All (λ v. v.columns ≡ columns) stems.new.items }
+    ensures last { result ≤ last }
+{
+    let mut kept = 0;
+    for k in 0..last {
+        if is_needed(faces, count, stems[k].settled(), stems[k + 1].settled()) {
+            stems.swap(kept, k);
+            kept += 1;
+        }
+    }
+    stems.swap(kept, last);
+    kept
+}
+
+/// The stem of the path that goes on with the rows, and how many of them it stands for.
 fn begin(
     stems: &mut Vec<Stem>,
     columns: u32,
-    level: usize,
-    folds: &[Fold],
+    last: usize,
+    rows: &HeadRows,
+    count: usize,
 ) -> Result<(usize, usize), AllocError>
     requires columns { All (λ v. v.columns ≡ columns) stems.old.items }
-    requires within { level < length stems.old.items }
+    requires within { last < length stems.old.items }
     ensures count { length stems.new.items ≡ length stems.old.items }
     ensures columns { All (λ v. v.columns ≡ columns) stems.new.items }
-    ensures level { IfOk result (λ r. r.0 ≤ level) }
-    ensures rows { IfOk result (λ r. r.1 ≤ length folds.now) }
-    ensures known { IfOk result (λ r. HasStem stems.new.items r.0 folds.now r.1) }
+    ensures level { IfOk result (λ r. r.0 ≤ last) }
+    ensures rows { IfOk result (λ r. r.1 ≤ length rows.now.folds.items) }
+    ensures known { IfOk result (λ r. HasGone stems.new.items r.0 rows.now.folds.items r.1 Feasible) }
 {
-    if let Some(count) = stems[level].stands_for(folds) {
-        return Ok((level, count));
+    let common = stems[last].common(&rows.folds);
+    let level = take_back(stems, columns, last, common);
+    let level = thin(stems, columns, level, &rows.faces, count);
+    if let Some(known) = stems[level].stands_for(&rows.folds) {
+        return Ok((level, known));
     }
     stems[0].start()?;
     Ok((0, 0))
 }
 
-/// The stems of the key that was probed last: one for no two-face, and one more for each. Contracts see the number of heights
-/// and the last stem.
+/// Makes a stem above this level where there is none, unless there are enough. The answer is whether there is one.
+fn make_room(
+    stems: &mut Vec<Stem>,
+    alloc: Global,
+    columns: u32,
+    level: usize,
+    most: usize,
+) -> Result<bool, AllocError>
+    requires few { columns ≤ 400 }
+    requires columns { All (λ v. v.columns ≡ columns) stems.old.items }
+    requires within { level < length stems.old.items }
+    ensures columns { All (λ v. v.columns ≡ columns) stems.new.items }
+    ensures within { level < length stems.new.items }
+    ensures same { slice_get stems.new.items level ≡ slice_get stems.old.items level }
+    ensures room { IfOk result (λ b. OnTrue b (level + 1 < length stems.new.items)) }
+{
+    if level + 1 < stems.len() {
+        return Ok(true);
+    }
+    if level + 1 >= most {
+        return Ok(false);
+    }
+    let stem = Stem::new(alloc, columns)?;
+    stems.push(stem)?;
+    Ok(true)
+}
+
+/// Lets the stem at this level go on with one more row.
+fn push_at(
+    stems: &mut Vec<Stem>,
+    columns: u32,
+    level: usize,
+    folds: &[Fold],
+    row: usize,
+) -> Result<Pushed, AllocError>
+    requires columns { All (λ v. v.columns ≡ columns) stems.old.items }
+    requires known { HasGone stems.old.items level folds.now row Feasible }
+    requires row { row < length folds.now }
+    requires folds { AreFoldsOver columns folds.now }
+    ensures count { length stems.new.items ≡ length stems.old.items }
+    ensures columns { All (λ v. v.columns ≡ columns) stems.new.items }
+    ensures gone { IfOk result (λ p. HasGone stems.new.items level folds.now (row + 1) p) }
+{
+    stems[level].extend(folds, row, row + 1)
+}
+
+/// Lets the stem go on with one more row. Where that changes its numbers, the spare one stands where it did, and the second
+/// answer is true.
+fn push_aside(
+    stem: &mut Stem,
+    spare: &mut Stem,
+    folds: &[Fold],
+    row: usize,
+) -> Result<(Pushed, bool), AllocError>
+    requires same { spare.old.columns ≡ stem.old.columns }
+    requires known { stem.old.folds ≡ Some (take row folds.now) }
+    requires row { row < length folds.now }
+    requires folds { AreFoldsOver stem.old.columns folds.now }
+    ensures columns { stem.new.columns ≡ stem.old.columns }
+    ensures spare { spare.new.columns ≡ stem.old.columns }
+    ensures extended { IfOk result (λ r. HasExtended stem.new folds.now (row + 1) r.0) }
+{
+    stem.push_aside(&folds[row], spare)
+}
+
+/// Lets the stem at this level go on with one more row. Where that changes its numbers, the stem above stands where it did, and
+/// the second answer is true.
+fn push_beside(
+    stems: &mut Vec<Stem>,
+    columns: u32,
+    level: usize,
+    folds: &[Fold],
+    row: usize,
+) -> Result<(Pushed, bool), AllocError>
+    requires columns { All (λ v. v.columns ≡ columns) stems.old.items }
+    requires within { level + 1 < length stems.old.items }
+    requires known { HasGone stems.old.items level folds.now row Feasible }
+    requires row { row < length folds.now }
+    requires folds { AreFoldsOver columns folds.now }
+    ensures count { length stems.new.items ≡ length stems.old.items }
+    ensures columns { All (λ v. v.columns ≡ columns) stems.new.items }
+    ensures gone { IfOk result (λ r. HasGone stems.new.items level folds.now (row + 1) r.0) }
+{
+    let (path, free) = stems.split_at_mut(level + 1);
+    push_aside(&mut path[level], &mut free[0], folds, row)
+}
+
+/// The stems of the key that was probed last, a path: each stands for more of its first rows than the one below it, and the last
+/// one for all of them. Those above are free. Contracts see the number of heights and the last stem.
 #[derive(Drop)]
 pub struct Stems {
+    alloc: Global,
     columns: u32,
+    /// So many stems are kept at most.
+    most: usize,
     stems: Vec<Stem>,
-    numbers: Vec<u32>,
     last: usize,
 }
 
@@ -116,7 +210,7 @@ impl Model for Stems {
 
     ghost view = { λ s. record { columns = s.columns; last = slice_get s.stems.items s.last } };
 
-    ghost invariant = { λ s. AreStems s.columns s.stems.items };
+    ghost invariant = { λ s. AreStems s.columns s.last s.stems.items };
 }
 
 impl Stems {
@@ -132,21 +226,59 @@ impl Stems {
         requires { columns ≤ 400 }
         ensures { IfOk result (λ s. s.columns ≡ columns) }
     {
-        let count = faces.saturating_add(1);
-        let mut stems = Vec::with_capacity(alloc, count)?;
-        for _face in 0..count {
-            stems.push(Stem::new(alloc, columns)?)?;
-        }
+        let first = Stem::new(alloc, columns)?;
+        let mut stems = Vec::new(alloc);
+        stems.push(first)?;
         Ok(Stems {
+            alloc,
             columns,
+            most: most_stems(columns, faces),
             stems,
-            numbers: Vec::new(alloc),
             last: 0,
         })
     }
 
-    /// Lets the stem of the key's two-faces go on from those of the key before, as far as these are the same. It is the last stem
-    /// then, and stands for the rows, or has multipliers with which they cancel, or nothing is known.
+    /// Lets the last stem go on with one more row. Where that changes its numbers, and there is room, one that stands where it did
+    /// stays below.
+    fn push(&mut self, folds: &[Fold], row: usize) -> Result<Pushed, AllocError>
+        requires known { IsLastAfter self.old folds.now row Feasible }
+        requires row { row < length folds.now }
+        requires folds { AreFoldsOver self.old.columns folds.now }
+        ensures columns { self.new.columns ≡ self.old.columns }
+        ensures gone { IfOk result (λ p. IsLastAfter self.new folds.now (row + 1) p) }
+    {
+        let level = self.last;
+        if !make_room(&mut self.stems, self.alloc, self.columns, level, self.most)? {
+            return push_at(&mut self.stems, self.columns, level, folds, row);
+        }
+        let (pushed, is_aside) = push_beside(&mut self.stems, self.columns, level, folds, row)?;
+        if is_aside {
+            self.stems.swap(level, level + 1);
+            self.last = level + 1;
+        }
+        Ok(pushed)
+    }
+
+    /// Lets the last stem go on with the rows behind so many, until they cancel or a number does not fit.
+    fn extend(&mut self, folds: &[Fold], from: usize) -> Result<Pushed, AllocError>
+        requires known { IsLastAfter self.old folds.now from Feasible }
+        requires from { from ≤ length folds.now }
+        requires folds { AreFoldsOver self.old.columns folds.now }
+        ensures columns { self.new.columns ≡ self.old.columns }
+        ensures followed { IfOk result (λ p. HasFollowed self.new folds.now p) }
+    {
+        for row in from..folds.len() {
+            match self.push(folds, row)? {
+                Pushed::Feasible => {}
+                Pushed::Infeasible => return Ok(Pushed::Infeasible),
+                Pushed::Unknown => return Ok(Pushed::Unknown),
+            }
+        }
+        Ok(Pushed::Feasible)
+    }
+
+    /// Lets the run go on from the key before, as far as the rows are the same. The last stem stands for the rows then, or has
+    /// multipliers with which they cancel, or nothing is known.
     ///
     /// # Errors
     /// `AllocError` where memory is short.
@@ -155,32 +287,15 @@ impl Stems {
         ensures columns { self.new.columns ≡ self.old.columns }
         ensures followed { IfOk result (λ p. HasFollowed self.new rows.now.folds.items p) }
     {
-        let folds = rows.folds.as_slice();
-        let faces = numbers.len();
-        if faces == 0 || faces >= self.stems.len() {
-            return Ok(Pushed::Unknown);
-        }
-        let common = common_count(&self.numbers, numbers).min(faces - 1);
-        self.numbers.clear();
-        let (first, mut from) = begin(&mut self.stems, self.columns, common, folds)?;
-        for level in first..faces {
-            let to = if level + 1 == faces {
-                folds.len()
-            } else {
-                rows_to(&rows.faces, level).max(from).min(folds.len())
-            };
-            match go_level(&mut self.stems, self.columns, level, folds, from, to)? {
-                Pushed::Feasible => from = to,
-                Pushed::Infeasible => {
-                    self.last = level + 1;
-                    return Ok(Pushed::Infeasible);
-                }
-                Pushed::Unknown => return Ok(Pushed::Unknown),
-            }
-        }
-        self.last = faces;
-        self.numbers.extend_from_slice(numbers)?;
-        Ok(Pushed::Feasible)
+        let (level, from) = begin(
+            &mut self.stems,
+            self.columns,
+            self.last,
+            rows,
+            numbers.len(),
+        )?;
+        self.last = level;
+        self.extend(&rows.folds, from)
     }
 
     /// The multipliers with which the last stem found that rows cancel.

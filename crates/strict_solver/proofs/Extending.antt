@@ -38,10 +38,5 @@ cancel_more m n fs k d ms e l h =
     let whole : map (fold_row m) (take (k + 1) fs) ++ map (fold_row m) (drop (k + 1) fs) ≡ map (fold_row m) fs = sym (map-append (fold_row m) (take (k + 1) fs) (drop (k + 1) fs)) ∙ ap (map (fold_row m)) (take_rest fs (k + 1)) in
     subst M e (cancelling m fs None ms (subst J whole (still-infeasible m (map (fold_row m) front) (map (fold_row m) rest) (subst R (sym whole) (are_rows m fs)) ms (subst I (sym (take_more fs k d l)) h))))
 
-pub take_same : (fs gs : List Fold) (d : Fold) → length fs ≤ length gs → ((k : ℕ) → k < length fs → get_or fs k d ≡ get_or gs k d) → fs ≡ take (length fs) gs
-take_same [] gs d l h = refl
-take_same (f ∷ fs) [] d l h = absurd (omega arith)
-take_same (f ∷ fs) (g ∷ gs) d l h = λ i. h 0 (omega arith) i ∷ take_same fs gs d (omega arith) (λ k m. h (suc k) (omega arith)) i
-
 abbrev pub no_fold : Fold
 no_fold = record { a = 0; b = 0; c = 0; d = 0; alpha = pos 0; beta = pos 0 }

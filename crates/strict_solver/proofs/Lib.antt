@@ -60,5 +60,6 @@ pub mod Exchanging
 pub mod Settling
 pub mod HeightsLine
 pub mod Stems
+pub mod Cutting
 pub mod Extending
 pub mod Ending

@@ -1,5 +1,5 @@
 -- A basis: rows of all heights over the variables that are not basic, with one denominator, and the table that they stand for.
-use Rattle.std.specs.Prelude.{◌≡◌, ◌≢◌, ℕ, ◌+◌, ◌-◌, ◌*◌, ◌^◌, ◌<◌, ◌≤◌, ℤ, pos, ◌+ℤ◌, ◌-ℤ◌, ◌*ℤ◌, ◌<ℤ◌, ◌≤ℤ◌, unsigned_abs, List, map, length, slice_get, slice_index_or, slice_set, Option, Some, None}
+use Rattle.std.specs.Prelude.{◌≡◌, ◌≢◌, ℕ, ◌+◌, ◌-◌, ◌*◌, ◌^◌, ◌<◌, ◌≤◌, ℤ, pos, ◌+ℤ◌, ◌-ℤ◌, ◌*ℤ◌, ◌<ℤ◌, ◌≤ℤ◌, unsigned_abs, List, [], ◌∷◌, ◌++◌, map, length, slice_get, slice_index_or, slice_set, Option, Some, None}
 use Rattle.std.specs.Int.{◌∣◌}
 use Rattle.ntfe_nums.specs.Vectors.{sign}
 use Rattle.ntfe_model.specs.declared.nogood.Fold.{Fold}
@@ -138,6 +138,14 @@ pub record HasOtherLine (b c : Basis) : Type 0 where
   pub cells : c.cells ≡ b.cells
   pub places : c.places ≡ b.places
   pub line : length c.line.items ≡ length b.line.items
+
+-- only a slack's place, the last, has come
+pub record HasOneMore (b c : Basis) : Type 0 where
+  pub columns : c.columns ≡ b.columns
+  pub denominator : c.denominator ≡ b.denominator
+  pub cells : c.cells ≡ b.cells
+  pub places : c.places.items ≡ b.places.items ++ Row 0 ∷ []
+  pub line : c.line ≡ b.line
 
 -- the kept line, solved for the variable y, was put into all rows, and y and the variable x of the line have changed their places
 pub record IsExchanged (b c : Basis) (x y : ℕ) : Type 0 where

@@ -1,5 +1,5 @@
 -- Stems: where the stated run ends on some rows.
-use Rattle.std.specs.Prelude.{◌≡◌, ◌≢◌, ℕ, ◌+◌, ◌*◌, ◌<◌, ◌≤◌, ℤ, pos, List, length, slice_get, Option, Some}
+use Rattle.std.specs.Prelude.{◌≡◌, ◌≢◌, ℕ, ◌+◌, ◌*◌, ◌<◌, ◌≤◌, ℤ, pos, List, take, length, slice_get, Option, Some}
 use Rattle.ntfe_model.specs.declared.nogood.Fold.{Fold}
 use Rattle.strict_solver.specs.declared.place.Place.{Place}
 use Rattle.strict_solver.specs.declared.place.Place.TheVariants.{Column}
@@ -43,3 +43,15 @@ pub record IsCopy (b c : Basis) : Type 0 where
   pub denominator : c.denominator ≡ b.denominator
   pub cells : c.cells.items ≡ b.cells.items
   pub places : c.places.items ≡ b.places.items
+
+-- c has the numbers of b, and of its places those of the heights and of the first n slacks
+pub record IsCut (b c : Basis) (n : ℕ) : Type 0 where
+  pub columns : c.columns ≡ b.columns
+  pub denominator : c.denominator ≡ b.denominator
+  pub cells : c.cells.items ≡ b.cells.items
+  pub places : c.places.items ≡ take (b.columns + n) b.places.items
+
+-- The folds behind the first s changed no number: for each count from s on, the basis with fewer places stands at the end of the run on the first so many.
+pub record IsSettled (b : Basis) (fs : List Fold) (s : ℕ) : Type 0 where
+  pub within : s ≤ length fs
+  pub each : (n : ℕ) → s ≤ n → n ≤ length fs → (c : Basis) → HasMemory c → IsCut b c n → IsKnownStem c (take n fs)

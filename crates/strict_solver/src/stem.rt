@@ -1,13 +1,16 @@
 //! The end of the stated run on some rows, from which it goes on.
-ghost use Rattle.std.specs.Prelude.{◌≡◌, ◌+◌, ◌*◌, ◌<◌, ◌≤◌, ℕ, [], take, length, is_some, OnOk};
+ghost use Rattle.std.specs.Prelude.{◌≡◌, ◌+◌, ◌*◌, ◌<◌, ◌≤◌, ◌++◌, ◌∷◌, ℕ, [], take, length, is_some, IfOk, OnOk};
 ghost use Rattle.std.specs.Bool.{OnTrue};
 ghost use Rattle.strict_solver.specs.Grids.{row_at};
+ghost use Rattle.strict_solver.specs.Starts.{IsFoldOver};
 ghost use Rattle.strict_solver.specs.Standing.{HasSameSizes};
-ghost use Rattle.strict_solver.specs.Stems.{ArePlacedHeights, IsItself, HasMemory, IsKnownStem, IsCopy};
+ghost use Rattle.strict_solver.specs.Endings.{HasEffect};
+ghost use Rattle.strict_solver.specs.Stems.{ArePlacedHeights, IsItself, HasMemory, IsKnownStem, IsSettled, IsCopy};
+ghost use Rattle.strict_solver.specs.Pushes.{HasGoneOn};
 
 use crate::basis::Basis;
 use crate::place::Place;
-use crate::stepping::Ending;
+use crate::stepping::{Effect, Ending};
 use ntfe_model::Fold;
 use std::alloc::{AllocError, Global};
 use std::marker::Model;
@@ -29,19 +32,21 @@ pub enum Pushed {
 pub struct Stem {
     basis: Basis,
     folds: Vec<Fold>,
+    /// How many rows it had when a number of its table last changed.
+    settled: usize,
     known: bool,
     multipliers: Vec<(u32, i64)>,
 }
 
 impl Model for Stem {
     ghost use Rattle.std.specs.Prelude.{◌≡◌, true, cond, Some, None};
-    ghost use Rattle.strict_solver.specs.Stems.{StemValue, HasMemory, IsKnownStem};
+    ghost use Rattle.strict_solver.specs.Stems.{StemValue, HasMemory, IsKnownStem, IsSettled};
 
     ghost Value = { StemValue };
 
     ghost view = { λ s. record { columns = s.basis.columns; folds = cond s.known (Some s.folds.items) None; multipliers = s.multipliers.items } };
 
-    ghost invariant = { λ s. HasMemory s.basis × (s.known ≡ true → IsKnownStem s.basis s.folds.items) };
+    ghost invariant = { λ s. HasMemory s.basis × (s.known ≡ true → IsKnownStem s.basis s.folds.items) × (s.known ≡ true → IsSettled s.basis s.folds.items s.settled) };
 }
 
 /// The places of the heights: each has its column.
@@ -123,21 +128,57 @@ fn is_same(fold: &Fold, other: &Fold) -> bool
         && fold.beta == other.beta
 }
 
-/// Whether the others begin with these folds.
-fn begin_with(others: &[Fold], folds: &[Fold]) -> bool
-    requires { length folds.now ≤ length others.now }
-    ensures { OnTrue result (folds.now ≡ take (length folds.now) others.now) }
+/// How many folds the lists begin with in common.
+fn common_count(left: &[Fold], right: &[Fold]) -> usize
+    ensures left { result ≤ length left.now }
+    ensures right { result ≤ length right.now }
+    ensures same { take result left.now ≡ take result right.now }
 {
-    for k in 0..folds.len() {
-        if !is_same(&folds[k], &others[k]) {
-            return false;
-        }
+    let mut count = 0;
+    while count < left.len() && count < right.len() && is_same(&left[count], &right[count]) {
+        count += 1;
     }
-    true
+    count
+}
+
+/// Goes on with one more row, whose effect is given.
+fn push_row(
+    basis: &mut Basis,
+    folds: &mut Vec<Fold>,
+    settled: &mut usize,
+    multipliers: &mut Vec<(u32, i64)>,
+    fold: &Fold,
+    effect: Effect,
+) -> Result<Pushed, AllocError>
+    requires known { IsKnownStem basis.old folds.old.items }
+    requires settled { IsSettled basis.old folds.old.items settled.old }
+    requires fold { IsFoldOver basis.old.columns fold.now }
+    requires effect { HasEffect basis.old fold.now effect }
+    ensures sizes { HasSameSizes basis.old basis.new }
+    ensures folds { IfOk result (λ p. folds.new.items ≡ folds.old.items ++ fold.now ∷ []) }
+    ensures pushed { IfOk result (λ p. HasGoneOn basis.new folds.new.items settled.new multipliers.new.items p) }
+{
+    folds.push(*fold)?;
+    if folds.len() >= 1 << 32 {
+        return Ok(Pushed::Unknown);
+    }
+    match basis.go_on(folds, fold, effect)? {
+        Ending::Feasible => {
+            if effect.changes() {
+                *settled = folds.len();
+            }
+            Ok(Pushed::Feasible)
+        }
+        Ending::Infeasible(row) => {
+            basis.write_multipliers(row, folds.len(), multipliers)?;
+            Ok(Pushed::Infeasible)
+        }
+        Ending::Unknown => Ok(Pushed::Unknown),
+    }
 }
 
 impl Stem {
-    ghost use Rattle.std.specs.Prelude.{◌++◌, ◌∷◌, List, ℤ, map, Some, None, IfOk, IfSome};
+    ghost use Rattle.std.specs.Prelude.{List, ℤ, map, Some, None, IfSome, MatchBool};
     ghost use Rattle.ntfe_model.specs.declared.nogood.Fold.{Fold as FoldOf};
     ghost use Rattle.ntfe_model.specs.Solver.{fold_row, IsFeasible};
     ghost use Rattle.strict_solver.specs.Starts.{IsFoldOver, AreFoldsOver};
@@ -164,6 +205,7 @@ impl Stem {
         Ok(Stem {
             basis,
             folds: Vec::new(alloc),
+            settled: 0,
             known: true,
             multipliers: Vec::new(alloc),
         })
@@ -179,7 +221,25 @@ impl Stem {
     {
         self.known = false;
         self.folds.clear();
+        self.settled = 0;
         self.basis.start()?;
+        self.known = true;
+        Ok(())
+    }
+
+    /// Stands where another one does that is known.
+    fn stand_at(&mut self, basis: &Basis, folds: &[Fold], settled: usize) -> Result<(), AllocError>
+        requires known { IsKnownStem basis.now folds.now }
+        requires settled { IsSettled basis.now folds.now settled }
+        requires columns { basis.now.columns ≡ self.old.columns }
+        ensures columns { self.new.columns ≡ self.old.columns }
+        ensures folds { OnOk result (self.new.folds ≡ Some folds.now) }
+    {
+        self.known = false;
+        self.folds.clear();
+        self.folds.extend_from_slice(folds)?;
+        self.basis.copy_from(basis)?;
+        self.settled = settled;
         self.known = true;
         Ok(())
     }
@@ -193,11 +253,10 @@ impl Stem {
         ensures columns { self.new.columns ≡ self.old.columns }
         ensures folds { OnOk result (self.new.folds ≡ other.now.folds) }
     {
+        if other.known {
+            return self.stand_at(&other.basis, &other.folds, other.settled);
+        }
         self.known = false;
-        self.folds.clear();
-        self.folds.extend_from_slice(&other.folds)?;
-        self.basis.copy_from(&other.basis)?;
-        self.known = other.known;
         Ok(())
     }
 
@@ -218,23 +277,87 @@ impl Stem {
         ensures columns { self.new.columns ≡ self.old.columns }
         ensures pushed { IfOk result (λ p. HasPushed self.old self.new fold.now p) }
     {
+        let effect = self.basis.effect(fold);
         self.known = false;
-        self.folds.push(*fold)?;
-        if self.folds.len() >= 1 << 32 {
-            return Ok(Pushed::Unknown);
+        let pushed = push_row(
+            &mut self.basis,
+            &mut self.folds,
+            &mut self.settled,
+            &mut self.multipliers,
+            fold,
+            effect,
+        )?;
+        if let Pushed::Feasible = pushed {
+            self.known = true;
         }
-        match self.basis.go_on(&self.folds, fold)? {
-            Ending::Feasible => {
-                self.known = true;
-                Ok(Pushed::Feasible)
-            }
-            Ending::Infeasible(row) => {
-                self.basis
-                    .write_multipliers(row, self.folds.len(), &mut self.multipliers)?;
-                Ok(Pushed::Infeasible)
-            }
-            Ending::Unknown => Ok(Pushed::Unknown),
+        Ok(pushed)
+    }
+
+    /// Goes on with one more row as `push` does. Where that changes a number, the spare stem first stands where this one did, and
+    /// the second answer is true.
+    ///
+    /// # Errors
+    /// `AllocError` where memory is short. Then nothing is known of this stem, or nothing of the spare one.
+    pub fn push_aside(
+        &mut self,
+        fold: &Fold,
+        spare: &mut Stem,
+    ) -> Result<(Pushed, bool), AllocError>
+        requires known { (fs : List FoldOf) × (self.old.folds ≡ Some fs) }
+        requires fold { IsFoldOver self.old.columns fold.now }
+        requires columns { spare.old.columns ≡ self.old.columns }
+        ensures columns { self.new.columns ≡ self.old.columns }
+        ensures spare { spare.new.columns ≡ self.old.columns }
+        ensures pushed { IfOk result (λ r. HasPushed self.old self.new fold.now r.0) }
+        ensures aside { IfOk result (λ r. MatchBool r.1 (spare.new.folds ≡ self.old.folds) (spare.new ≡ spare.old)) }
+    {
+        let effect = self.basis.effect(fold);
+        let changes = effect.changes();
+        if changes {
+            spare.stand_at(&self.basis, &self.folds, self.settled)?;
         }
+        self.known = false;
+        let pushed = push_row(
+            &mut self.basis,
+            &mut self.folds,
+            &mut self.settled,
+            &mut self.multipliers,
+            fold,
+            effect,
+        )?;
+        if let Pushed::Feasible = pushed {
+            self.known = true;
+        }
+        Ok((pushed, changes))
+    }
+
+    /// Takes the rows behind so many of them back, where these changed no number. The answer is false, and nothing is done, where
+    /// they did, or where nothing is known.
+    pub fn truncate(&mut self, count: usize) -> bool
+        ensures columns { self.new.columns ≡ self.old.columns }
+        ensures folds { MatchBool result ((fs : List FoldOf) × (self.old.folds ≡ Some fs) × (self.new.folds ≡ Some (take count fs))) (self.new ≡ self.old) }
+    {
+        if !self.known || count < self.settled {
+            return false;
+        }
+        if count < self.folds.len() {
+            self.basis.places.truncate(self.basis.columns + count);
+            self.folds.truncate(count);
+        }
+        true
+    }
+
+    /// How many rows it had when a number last changed: `truncate` leaves no fewer.
+    pub fn settled(&self) -> usize {
+        self.settled
+    }
+
+    /// How many rows the given ones begin with that are its own.
+    pub fn common(&self, folds: &[Fold]) -> usize
+        ensures within { result ≤ length folds.now }
+        ensures same { (fs : List FoldOf) → self.now.folds ≡ Some fs → take result fs ≡ take result folds.now }
+    {
+        common_count(&self.folds, folds)
     }
 
     /// How many of the rows it stands for, where these are its rows as far as it has them.
@@ -243,7 +366,7 @@ impl Stem {
         ensures folds { IfSome result (λ n. self.now.folds ≡ Some (take n folds.now)) }
     {
         let count = self.folds.len();
-        if self.known && count <= folds.len() && begin_with(folds, &self.folds) {
+        if self.known && common_count(&self.folds, folds) == count {
             Some(count)
         } else {
             None

@@ -1,12 +1,13 @@
 //! The steps of a basis: one more row, and its moves.
-ghost use Rattle.std.specs.Prelude.{◌≡◌, ◌≢◌, ℕ, ◌+◌, ◌*◌, ◌^◌, ◌<◌, ◌≤◌, pos, ◌-◌, ◌<ℤ◌, ◌≤ℤ◌, unsigned_abs, List, [], ◌∷◌, ◌++◌, length, slice_get, MatchOption, MatchBool, IfOk, Some};
+ghost use Rattle.std.specs.Prelude.{◌≡◌, ◌≢◌, ℕ, ◌+◌, ◌*◌, ◌^◌, ◌<◌, ◌≤◌, pos, ◌-◌, ◌<ℤ◌, ◌≤ℤ◌, unsigned_abs, List, [], ◌∷◌, ◌++◌, length, slice_get, MatchOption, MatchBool, IfOk, OnOk, Some};
 ghost use Rattle.std.specs.Bool.{OnTrue};
 ghost use Rattle.ntfe_model.specs.declared.nogood.Fold.{Fold as FoldOf};
 ghost use Rattle.strict_solver.specs.declared.place.Place.TheVariants.{Row, Column};
+ghost use Rattle.strict_solver.specs.declared.stepping.Effect.TheVariants.{Stays};
 ghost use Rattle.strict_solver.specs.Rows.{number, AreNarrow, PlacesWithin};
 ghost use Rattle.strict_solver.specs.Starts.{IsFoldOver, AreFoldsOver};
-ghost use Rattle.strict_solver.specs.Standing.{fold_sum, cell_at, constant_of, IsSized, HasSlackRow, HasNoneBelow, IsFirstBelow, LoadsNothing, IsFirstHeight, HasNoneEntering, IsFirstToEnter, HasSameSizes, HasOtherLine, IsExchanged, StandsLoaded, StandsAtEnd};
-ghost use Rattle.strict_solver.specs.Endings.{HasEndedAs, StandsBefore};
+ghost use Rattle.strict_solver.specs.Standing.{fold_sum, cell_at, constant_of, IsSized, HasSlackRow, HasNoneBelow, IsFirstBelow, LoadsNothing, IsFirstHeight, HasNoneEntering, IsFirstToEnter, HasSameSizes, HasOtherLine, HasOneMore, IsExchanged, StandsLoaded, StandsAtEnd};
+ghost use Rattle.strict_solver.specs.Endings.{HasEndedAs, StandsBefore, HasEffect, HasStayed};
 
 use crate::basis::{Basis, fold_of, put_in_rows, signed, write_fold_of_rows};
 use crate::divisor::{Divisor, NUMBER_LIMIT};
@@ -26,6 +27,29 @@ pub enum Ending {
     Infeasible(usize),
     /// Not known: a number is not whole or too large, or the moves are too many.
     Unknown,
+}
+
+/// What one more row does to a basis that stands at the end of a run.
+#[derive(Clone, Copy, Drop)]
+pub enum Effect {
+    /// It loads this height, the first that it can.
+    Loads(usize),
+    /// It has no height to load, and its slack is negative.
+    Moves,
+    /// It has no height to load, and its slack is not negative: no number changes.
+    Stays,
+}
+
+impl Effect {
+    /// Whether a number of the basis changes.
+    pub fn changes(self) -> bool
+        ensures { MatchBool result (Unit {0}) (self ≡ Stays) }
+    {
+        match self {
+            Effect::Loads(_) | Effect::Moves => true,
+            Effect::Stays => false,
+        }
+    }
 }
 
 impl Basis {
@@ -209,36 +233,68 @@ impl Basis {
         }
     }
 
-    /// Goes on with one more row that has no height to load. It moves only where that row's slack is negative.
-    fn go_on_loaded(&mut self, folds: &[Fold], fold: &Fold) -> Result<Ending, AllocError>
-        requires sized { IsSized self.old }
-        requires folds { AreFoldsOver self.old.columns folds.now }
-        requires stands { StandsBefore self.old folds.now fold.now }
-        requires none { LoadsNothing self.old fold.now }
-        ensures sizes { HasSameSizes self.old self.new }
-        ensures answer { IfOk result (λ e. HasEndedAs self.new folds.now e) }
+    /// What one more row does.
+    pub fn effect(&self, fold: &Fold) -> Effect
+        requires sized { IsSized self.now }
+        requires fold { IsFoldOver self.now.columns fold.now }
+        requires enough { self.now.columns ≤ length self.now.places.items }
+        requires within { PlacesWithin (self.now.columns + 2) self.now.places.items }
+        ensures { HasEffect self.now fold.now result }
     {
-        let is_below = self.is_below(fold);
-        self.places.push(Place::Row(0))?;
-        if is_below {
-            Ok(self.settle(folds))
+        if let Some(height) = self.first_height(fold) {
+            return Effect::Loads(height);
+        }
+        if self.is_below(fold) {
+            Effect::Moves
         } else {
-            Ok(Ending::Feasible)
+            Effect::Stays
         }
     }
 
-    /// Goes on with one more row: it stands at the end of the run on the folds but the last, and goes on to the end of that on
-    /// all.
-    pub fn go_on(&mut self, folds: &[Fold], fold: &Fold) -> Result<Ending, AllocError>
+    /// Goes on with one more row, the last of the folds, which has no height to load: it moves until no slack is negative.
+    fn move_on(&mut self, folds: &[Fold]) -> Result<Ending, AllocError>
         requires sized { IsSized self.old }
         requires folds { AreFoldsOver self.old.columns folds.now }
-        requires stands { StandsBefore self.old folds.now fold.now }
+        requires last { (f : FoldOf) × StandsBefore self.old folds.now f × LoadsNothing self.old f }
         ensures sizes { HasSameSizes self.old self.new }
         ensures answer { IfOk result (λ e. HasEndedAs self.new folds.now e) }
     {
-        match self.first_height(fold) {
-            Some(height) => self.load(fold, height),
-            None => self.go_on_loaded(folds, fold),
+        self.places.push(Place::Row(0))?;
+        Ok(self.settle(folds))
+    }
+
+    /// Goes on with one more row that changes no number: its slack has a place, and nothing else is new.
+    fn stay(&mut self) -> Result<(), AllocError>
+        ensures sizes { HasSameSizes self.old self.new }
+        ensures stays { OnOk result (HasOneMore self.old self.new) }
+    {
+        self.places.push(Place::Row(0))?;
+        Ok(())
+    }
+
+    /// Goes on with one more row, whose effect is given: it stands at the end of the run on the folds but the last, and goes on
+    /// to the end of that on all.
+    pub fn go_on(
+        &mut self,
+        folds: &[Fold],
+        fold: &Fold,
+        effect: Effect,
+    ) -> Result<Ending, AllocError>
+        requires sized { IsSized self.old }
+        requires folds { AreFoldsOver self.old.columns folds.now }
+        requires stands { StandsBefore self.old folds.now fold.now }
+        requires effect { HasEffect self.old fold.now effect }
+        ensures sizes { HasSameSizes self.old self.new }
+        ensures answer { IfOk result (λ e. HasEndedAs self.new folds.now e) }
+        ensures stays { OnOk result (HasStayed self.old self.new effect) }
+    {
+        match effect {
+            Effect::Loads(height) => self.load(fold, height),
+            Effect::Moves => self.move_on(folds),
+            Effect::Stays => {
+                self.stay()?;
+                Ok(Ending::Feasible)
+            }
         }
     }
 }
