@@ -69,7 +69,9 @@ fn thin(stems: &mut Vec<Stem>, columns: u32, last: usize, faces: &[u32], count: 
     let mut kept = 0;
     for k in 0..last {
         if is_needed(faces, count, stems[k].settled(), stems[k + 1].settled()) {
-            stems.swap(kept, k);
+            if kept < k {
+                stems.swap(kept, k);
+            }
             kept += 1;
         }
     }
