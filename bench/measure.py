@@ -14,7 +14,8 @@ ROOT = HERE.parent
 
 
 class Run(NamedTuple):
-    """One run: processor and wall seconds, peak resident size in kilobytes, and the digest of what it wrote."""
+    """One run: processor and wall seconds, peak resident size in kilobytes (not less than that of the bench itself, some 20,000), and the
+    digest of what it wrote."""
 
     processor: float
     wall: float
@@ -34,8 +35,10 @@ def once(words: list[str], source: pathlib.Path | None) -> Run:
             err.seek(0)
             sys.exit(f"{' '.join(words)} < {source}: status {child.returncode}\n{err.read().decode(errors='replace')}")
         out.seek(0)
-        digest = hashlib.sha256(out.read()).hexdigest()
-    return Run(used.ru_utime + used.ru_stime, wall, used.ru_maxrss, digest)
+        digest = hashlib.sha256()
+        for piece in iter(lambda: out.read(1 << 20), b""):
+            digest.update(piece)
+    return Run(used.ru_utime + used.ru_stime, wall, used.ru_maxrss, digest.hexdigest())
 
 
 def best(words: list[str], source: pathlib.Path | None, times: int, key: str = "processor") -> Run:
