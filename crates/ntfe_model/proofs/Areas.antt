@@ -9,7 +9,7 @@ use Rattle.std.proofs.lemmas.Int.{ints}
 use Rattle.ntfe_nums.specs.Vectors.{Vector, coordinate, area, det2, sign}
 use Rattle.ntfe_model.specs.declared.triangle.Triangle.{Triangle}
 use Rattle.ntfe_model.proofs.Listings.{Contains-here, Contains-there, Contains-cases, Contains-none}
-use Rattle.ntfe_nums.proofs.Ring.{Expression, ring}
+use Rattle.ntfe_nums.proofs.Ring.{Expression, ring, swap_sum}
 use Rattle.ntfe_nums.proofs.Ring.Expression.{var, plus, minus, times}
 
 -- ---- crosses
@@ -68,9 +68,6 @@ pub record IsWithout {X : Type 0} (w : X → ℤ) (xs : List X) (x : X) : Type 0
   pub other : (y : X) → Contains rest y → y ≢ x
   pub covers : (y : X) → Contains xs y → (y ≡ x) ⊎ Contains rest y
 
-swap : (a b c : ℤ) → a +ℤ (b +ℤ c) ≡ b +ℤ (a +ℤ c)
-swap a b c = omega (arith, ints)
-
 moved : {X : Type 0} (xs : List X) (x y : X) → x ≡ y → Contains xs x → Contains xs y
 moved {X} xs x y e h = let P : X → Type 0 = λ z. Contains xs z in subst P e h
 
@@ -91,7 +88,7 @@ without {X} w (y ∷ ys) x h d = by (Contains-cases x y ys h) (λ k. without w y
         let r = go k in
         record {
           rest = y ∷ r.rest;
-          sum = ap (λ z. w y +ℤ z) r.sum ∙ swap (w y) (w x) (total w r.rest);
+          sum = ap (λ z. w y +ℤ z) r.sum ∙ swap_sum (w y) (w x) (total w r.rest);
           distinct = ((λ l. d.0 (r.within y l)), r.distinct);
           within = λ z l. ⊎_elim (λ f. Contains-here z y ys f) (λ f. Contains-there z y ys (r.within z f)) (Contains-cases z y r.rest l);
           other = λ z l. ⊎_elim (λ f g. d.0 (moved ys x y (sym g ∙ f) k)) (λ f. r.other z f) (Contains-cases z y r.rest l);

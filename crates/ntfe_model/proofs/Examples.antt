@@ -312,7 +312,7 @@ not_after_start : ¬ (IsAfter (Some (0 ∷ 5 ∷ 2 ∷ [])) (0 ∷ 5 ∷ []))
 not_after_start e = cc
 
 -- the first key is live for no start at every width
-first_live : (g : Shape) (width : ℕ) → IsLive g None width (0 ∷ [])
+pub first_live : (g : Shape) (width : ℕ) → IsLive g None width (0 ∷ [])
 first_live g width = record { after = tt; open_stems = λ k low high h. absurd (omega arith) }
 
 -- so is each first key above the start

@@ -13,7 +13,7 @@ use Rattle.ntfe_model.specs.Choices.{AreOpposite, IsFoldOf}
 use Rattle.ntfe_model.specs.declared.triangle.Triangle.{Triangle}
 use Rattle.ntfe_model.specs.declared.triangulation.Triangulation.{Triangulation}
 use Rattle.ntfe_model.specs.declared.nogood.Fold.{Fold}
-use Rattle.ntfe_model.proofs.SmallVectors.{small_size}
+use Rattle.ntfe_model.proofs.SmallVectors.{IsSmallNumber, small_size}
 use Rattle.ntfe_model.proofs.Triples.{positive_apart}
 use Rattle.ntfe_model.proofs.Folds.{unit_corner}
 
@@ -53,9 +53,6 @@ no_gap a b h e = h (same a b e)
     same x y g = omega (arith, ints, g)
 
 -- ---- the factors of a fold
-
-abbrev IsSmallNumber : ℤ → Type 0
-IsSmallNumber z = (negsuc 1022 ≤ℤ z) × (z ≤ℤ pos 1023)
 
 -- a large factor leaves no difference in the coordinate
 none_apart : (a b c d n : ℤ) → IsSmallNumber a → IsSmallNumber c → IsSmallNumber d → c +ℤ d ≡ (pos 2 -ℤ n) *ℤ a +ℤ n *ℤ b → 4092 < unsigned_abs n → a ≡ b

@@ -15,6 +15,8 @@ use Rattle.ntfe_model.specs.declared.triangulation.Triangulation.{Triangulation}
 use Rattle.ntfe_model.specs.declared.nogood.Fold.{Fold}
 use Rattle.ntfe_model.proofs.Areas.{IsPositive, positive_is}
 use Rattle.ntfe_model.proofs.Triples.{AreThree, area_next, positive_three, third_point, corner_side, corner_same}
+use Rattle.ntfe_model.proofs.PlaneNumbers.{flat, flatE, reachE, coordinate_reached}
+use Rattle.ntfe_model.proofs.UnitTriples.{unit_turn, reached_balance}
 use Rattle.ntfe_nums.proofs.Ring.{Expression, ring}
 use Rattle.ntfe_nums.proofs.Ring.Expression.{var, num, plus, minus, times, neg}
 
@@ -24,29 +26,6 @@ use Rattle.ntfe_nums.proofs.Ring.Expression.{var, num, plus, minus, times, neg}
 abbrev pub reached1 : ℤ → ℤ → ℤ → ℤ → ℤ → ℤ
 reached1 a b c s t = a +ℤ (s *ℤ (b -ℤ a) +ℤ t *ℤ (c -ℤ a))
 
-abbrev reachedE : Expression → Expression → Expression → Expression → Expression → Expression
-reachedE a b c s t = plus a (plus (times s (minus b a)) (times t (minus c a)))
-
-turned1 : (a b c s t : ℤ) → reached1 a b c s t ≡ reached1 b c a t (pos 1 -ℤ s -ℤ t)
-turned1 a b c s t =
-    ring (a ∷ b ∷ c ∷ s ∷ t ∷ []) (reachedE (var 0) (var 1) (var 2) (var 3) (var 4))
-    (reachedE (var 1) (var 2) (var 0) (var 4) (minus (minus (num (pos 1)) (var 3)) (var 4))) refl
-
-pub reached_next : (a b c : Vector) (s t : ℤ) → reached a b c s t ≡ reached b c a t (pos 1 -ℤ s -ℤ t)
-reached_next a b c s t = λ i. record {
-  x1 = turned1 a.x1 b.x1 c.x1 s t i;
-  x2 = turned1 a.x2 b.x2 c.x2 s t i;
-  x3 = turned1 a.x3 b.x3 c.x3 s t i;
-  x4 = turned1 a.x4 b.x4 c.x4 s t i;
-}
-
-pub unit_next : (h : Patch) (a b c : ℕ) → IsUnit h a b c → IsUnit h b c a
-unit_next h a b c u = record {
-  points = (u.points.1, u.points.2, u.points.0);
-  left = ap sign (sym (area_next (axes h) (place h a) (place h b) (place h c))) ∙ u.left;
-  reaches = λ p k. let r = u.reaches p k in (r.1, pos 1 -ℤ r.0 -ℤ r.1, r.2 ∙ reached_next (place h a) (place h b) (place h c) r.0 r.1);
-}
-
 unit_moved : (h : Patch) (a b c x y z : ℕ) → a ≡ x → b ≡ y → c ≡ z → IsUnit h a b c → IsUnit h x y z
 unit_moved h a b c x y z p q r u =
     let P : ℕ → Type 0 = λ k. IsUnit h k b c in let Q : ℕ → Type 0 = λ k. IsUnit h x k c in let R : ℕ → Type 0 = λ k. IsUnit h x y k in
@@ -54,19 +33,10 @@ unit_moved h a b c x y z p q r u =
 
 pub unit_corner : (h : Patch) (t : Triangle) (x y z : ℕ) → IsUnit h t.a t.b t.c → IsRotationOf t x y z → IsUnit h x y z
 unit_corner h t x y z u (inl k) = unit_moved h t.a t.b t.c x y z k.0 k.1 k.2 u
-unit_corner h t x y z u (inr (inl k)) = unit_moved h t.b t.c t.a x y z k.0 k.1 k.2 (unit_next h t.a t.b t.c u)
-unit_corner h t x y z u (inr (inr k)) = unit_moved h t.c t.a t.b x y z k.0 k.1 k.2 (unit_next h t.b t.c t.a (unit_next h t.a t.b t.c u))
+unit_corner h t x y z u (inr (inl k)) = unit_moved h t.b t.c t.a x y z k.0 k.1 k.2 (unit_turn h t.a t.b t.c u)
+unit_corner h t x y z u (inr (inr k)) = unit_moved h t.c t.a t.b x y z k.0 k.1 k.2 (unit_turn h t.b t.c t.a (unit_turn h t.a t.b t.c u))
 
 -- ---- coordinates
-
-at_reached : (j : ℕ) (a b c : Vector) (s t : ℤ)
-    → get_or (numbers (reached a b c s t)) j (pos 0) ≡ reached1 (get_or (numbers a) j (pos 0)) (get_or (numbers b) j (pos 0)) (get_or (numbers c) j (pos 0)) s t
-at_reached zero a b c s t = refl
-at_reached (suc zero) a b c s t = refl
-at_reached (suc (suc zero)) a b c s t = refl
-at_reached (suc (suc (suc zero))) a b c s t = refl
-at_reached (suc (suc (suc (suc j)))) a b c s t =
-    ring (s ∷ t ∷ []) (num (pos 0)) (reachedE (num (pos 0)) (num (pos 0)) (num (pos 0)) (var 0) (var 1)) refl
 
 at_mix : (j : ℕ) (a b : Vector) (s t : ℤ)
     → get_or (numbers (vector_sum (multiple s a) (multiple t b))) j (pos 0) ≡ s *ℤ get_or (numbers a) j (pos 0) +ℤ t *ℤ get_or (numbers b) j (pos 0)
@@ -78,23 +48,17 @@ at_mix (suc (suc (suc (suc j)))) a b s t = ring (s ∷ t ∷ []) (num (pos 0)) (
 
 -- ---- the point across a side
 
-abbrev flat_area : ℤ → ℤ → ℤ → ℤ → ℤ → ℤ → ℤ
-flat_area ai aj bi bj ci cj = (bi -ℤ ai) *ℤ (cj -ℤ aj) -ℤ (bj -ℤ aj) *ℤ (ci -ℤ ai)
-
-abbrev flatE : Expression → Expression → Expression → Expression → Expression → Expression → Expression
-flatE ai aj bi bj ci cj = minus (times (minus bi ai) (minus cj aj)) (times (minus bj aj) (minus ci ai))
-
-across1 : (ai aj bi bj ci cj s t : ℤ) → flat_area bi bj ai aj (reached1 ai bi ci s t) (reached1 aj bj cj s t) ≡ neg_ℤ (t *ℤ flat_area ai aj bi bj ci cj)
+across1 : (ai aj bi bj ci cj s t : ℤ) → flat bi bj ai aj (reached1 ai bi ci s t) (reached1 aj bj cj s t) ≡ neg_ℤ (t *ℤ flat ai aj bi bj ci cj)
 across1 ai aj bi bj ci cj s t =
     ring (ai ∷ aj ∷ bi ∷ bj ∷ ci ∷ cj ∷ s ∷ t ∷ [])
-    (flatE (var 2) (var 3) (var 0) (var 1) (reachedE (var 0) (var 2) (var 4) (var 6) (var 7)) (reachedE (var 1) (var 3) (var 5) (var 6) (var 7)))
+    (flatE (var 2) (var 3) (var 0) (var 1) (reachE (var 0) (var 2) (var 4) (var 6) (var 7)) (reachE (var 1) (var 3) (var 5) (var 6) (var 7)))
     (neg (times (var 7) (flatE (var 0) (var 1) (var 2) (var 3) (var 4) (var 5)))) refl
 
 -- seen from the reversed side, the area grows by -t
 pub area_across : (q : ℕ × ℕ) (a b c d : Vector) (s t : ℤ) → d ≡ reached a b c s t → area q b a d ≡ neg_ℤ (t *ℤ area q a b c)
 area_across q a b c d s t e =
     ap (λ v. area q b a v) e
-    ∙ (λ i. flat_area (coordinate q.0 b) (coordinate q.1 b) (coordinate q.0 a) (coordinate q.1 a) (at_reached (q.0 - 1) a b c s t i) (at_reached (q.1 - 1) a b c s t i))
+    ∙ (λ i. flat (coordinate q.0 b) (coordinate q.1 b) (coordinate q.0 a) (coordinate q.1 a) (coordinate_reached q.0 a b c s t i) (coordinate_reached q.1 a b c s t i))
     ∙ across1 (coordinate q.0 a) (coordinate q.1 a) (coordinate q.0 b) (coordinate q.1 b) (coordinate q.0 c) (coordinate q.1 c) s t
 
 -- ---- its factor is -1
@@ -119,18 +83,8 @@ factor_one t r x y p q e f =
 
 -- ---- the balance
 
-balance1 : (a b c s : ℤ) → c +ℤ reached1 a b c s (negsuc 0) ≡ (pos 2 -ℤ s) *ℤ a +ℤ s *ℤ b
-balance1 a b c s =
-    ring (a ∷ b ∷ c ∷ s ∷ []) (plus (var 2) (reachedE (var 0) (var 1) (var 2) (var 3) (num (negsuc 0))))
-    (plus (times (minus (num (pos 2)) (var 3)) (var 0)) (times (var 3) (var 1))) refl
-
 pub balanced : (a b c : Vector) (s : ℤ) → vector_sum c (reached a b c s (negsuc 0)) ≡ vector_sum (multiple (pos 2 -ℤ s) a) (multiple s b)
-balanced a b c s = λ i. record {
-  x1 = balance1 a.x1 b.x1 c.x1 s i;
-  x2 = balance1 a.x2 b.x2 c.x2 s i;
-  x3 = balance1 a.x3 b.x3 c.x3 s i;
-  x4 = balance1 a.x4 b.x4 c.x4 s i;
-}
+balanced a b c s = reached_balance a b c (reached a b c s (negsuc 0)) s refl
 
 -- where a, b, c and b, a, d are unit triples, c + d = (2 - s) a + s b
 pub opposite_balance : (h : Patch) (a b c d : ℕ) → IsUnit h a b c → IsUnit h b a d
@@ -194,7 +148,7 @@ gap1 a b k l = (k *ℤ a +ℤ (pos 2 -ℤ k) *ℤ b) -ℤ (l *ℤ a +ℤ (pos 2 
 abbrev gapE : Expression → Expression → Expression → Expression → Expression
 gapE a b k l = minus (plus (times k a) (times (minus (num (pos 2)) k) b)) (plus (times l a) (times (minus (num (pos 2)) l) b))
 
-weighed : (ai aj bi bj ci cj k l : ℤ) → (k -ℤ l) *ℤ flat_area ai aj bi bj ci cj ≡ neg_ℤ ((cj -ℤ aj) *ℤ gap1 ai bi k l) +ℤ (ci -ℤ ai) *ℤ gap1 aj bj k l
+weighed : (ai aj bi bj ci cj k l : ℤ) → (k -ℤ l) *ℤ flat ai aj bi bj ci cj ≡ neg_ℤ ((cj -ℤ aj) *ℤ gap1 ai bi k l) +ℤ (ci -ℤ ai) *ℤ gap1 aj bj k l
 weighed ai aj bi bj ci cj k l =
     ring (ai ∷ aj ∷ bi ∷ bj ∷ ci ∷ cj ∷ k ∷ l ∷ [])
     (times (minus (var 6) (var 7)) (flatE (var 0) (var 1) (var 2) (var 3) (var 4) (var 5)))
@@ -256,7 +210,7 @@ opposite_apart h a b c d u v e =
     let w : pos (suc n) ≡ neg_ℤ (pos (suc m)) = sym y ∙ z ∙ ap (λ k. neg_ℤ (area q (place h a) (place h b) (place h k))) (sym e) ∙ ap neg_ℤ x in
     never m n w
   where
-    back : (ai aj bi bj ci cj : ℤ) → flat_area bi bj ai aj ci cj ≡ neg_ℤ (flat_area ai aj bi bj ci cj)
+    back : (ai aj bi bj ci cj : ℤ) → flat bi bj ai aj ci cj ≡ neg_ℤ (flat ai aj bi bj ci cj)
     back ai aj bi bj ci cj =
         ring (ai ∷ aj ∷ bi ∷ bj ∷ ci ∷ cj ∷ []) (flatE (var 2) (var 3) (var 0) (var 1) (var 4) (var 5)) (neg (flatE (var 0) (var 1) (var 2) (var 3) (var 4) (var 5))) refl
 

@@ -1,6 +1,10 @@
 pub mod Areas
+pub mod AxesLemmas
+pub mod Books
+pub mod Coefficients
 pub mod Counts
 pub mod Digits
+pub mod Entries
 pub mod Examples
 pub mod FlatLemmas
 pub mod FoldPlanes

@@ -1,5 +1,5 @@
 -- The orders of the definitions are strict; that of words, keys and choices is total.
-use Rattle.std.proofs.Common.{◌≡◌, ◌∙◌, refl, sym, ap, ◌⊎◌, inl, inr, ℕ, List, [], ◌∷◌, arith}
+use Rattle.std.proofs.Common.{◌≡◌, ◌∙◌, refl, sym, ap, ◌⊎◌, inl, inr, ℕ, List, [], ◌∷◌, arith, Option, None, Some}
 use Rattle.std.specs.Ordering.{nat_cmp, ordering_then, ordering_reverse}
 use Rattle.std.specs.declared.cmp.Ordering.{Ordering}
 use Rattle.std.specs.declared.cmp.Ordering.TheVariants.{Less, Equal, Greater}
@@ -8,6 +8,22 @@ use Rattle.std.specs.Cmp.Lexicographic.{slice_cmp, lists_total, nat_list_cmp_tot
 use Rattle.std.proofs.lemmas.Cmp.{int_cmp_total}
 use Rattle.ntfe_nums.specs.Vectors.{Vector, Precedes, numbers}
 use Rattle.ntfe_model.specs.Lists.{IsBelow, IsBefore2}
+use Rattle.ntfe_model.specs.Keys.{IsAfter}
+use Rattle.ntfe_model.specs.declared.triangulation.Triangulation.{Triangulation}
+use Rattle.ntfe_model.specs.declared.nogood.Fold.{Fold}
+
+-- ---- the orders by the letters of the words, and by the ends of edges and folds
+
+abbrev pub WordBelow : Triangulation → Triangulation → Type 0
+WordBelow y z = IsBelow y.word z.word
+
+abbrev pub EdgeBefore : ℕ × ℕ → ℕ × ℕ → Type 0
+EdgeBefore e f = IsBefore2 e.0 e.1 f.0 f.1
+
+abbrev pub FoldBefore : Fold → Fold → Type 0
+FoldBefore q r = IsBefore2 q.a q.b r.a r.b
+
+-- ---- each is strict
 
 pub precedes_once : (a b : Vector) → Precedes a b → Precedes b a → ⊥
 precedes_once a b p q = let r : Less ≡ ordering_reverse Less = sym p ∙ (lists_total int_cmp_total).antisymm (numbers a) (numbers b) ∙ ap ordering_reverse q in cc
@@ -20,6 +36,10 @@ below_once v w p q = let r : Less ≡ ordering_reverse Less = sym p ∙ nat_list
 
 pub below_chain : (u v w : List ℕ) → IsBelow u v → IsBelow v w → IsBelow u w
 below_chain u v w p q = nat_list_cmp_total.trans u v w p q
+
+pub after_chain : (s : Option (List ℕ)) (v w : List ℕ) → IsAfter s v → IsBelow v w → IsAfter s w
+after_chain None v w p q = tt
+after_chain (Some u) v w p q = below_chain u v w p q
 
 pub equal_lists : (v w : List ℕ) → slice_cmp nat_cmp v w ≡ Equal → v ≡ w
 equal_lists [] [] e = refl

@@ -6,7 +6,7 @@ use Rattle.ntfe_nums.specs.Vectors.{Vector, numbers, vector_sum, multiple, coord
 use Rattle.ntfe_model.specs.Charts.{reached}
 use Rattle.ntfe_nums.proofs.Ring.{Expression, ring}
 use Rattle.ntfe_nums.proofs.Ring.Expression.{var, num, plus, minus, times, neg}
-use Rattle.ntfe_nums.proofs.Signs.{size_zero, positive_product, product_zero}
+use Rattle.ntfe_nums.proofs.Signs.{size_zero, positive_product, positive_some, product_zero}
 
 -- ---- products
 
@@ -42,19 +42,19 @@ positive_factor (negsuc m) b h k = let l = negative_product (negsuc m) b (omega 
     by : (x : ℤ) → pos 0 <ℤ x → x <ℤ pos 0 → ⊥
     by x e l = absurd (omega (arith, ints, e, l))
 
-pub cancel : (a b k : ℤ) → pos 0 <ℤ k → a *ℤ k ≡ b *ℤ k → a ≡ b
-cancel a b k h e =
+pub cancel_other : (a b k : ℤ) → k ≢ pos 0 → a *ℤ k ≡ b *ℤ k → a ≡ b
+cancel_other a b k n e =
     let q : (a -ℤ b) *ℤ k ≡ a *ℤ k -ℤ b *ℤ k = ring (a ∷ b ∷ k ∷ []) (times (minus (var 0) (var 1)) (var 2)) (minus (times (var 0) (var 2)) (times (var 1) (var 2))) refl in
-    ⊎_elim (λ z. same a b z) (λ z. absurd (no k h z)) (zero_factor (a -ℤ b) k (q ∙ apart (a *ℤ k) (b *ℤ k) e))
+    ⊎_elim (λ z. same a b z) (λ z. absurd (n z)) (zero_factor (a -ℤ b) k (q ∙ apart (a *ℤ k) (b *ℤ k) e))
   where
     same : (x y : ℤ) → x -ℤ y ≡ pos 0 → x ≡ y
     same x y z = omega (arith, ints, z)
 
-    no : (x : ℤ) → pos 0 <ℤ x → x ≡ pos 0 → ⊥
-    no x l z = absurd (omega (arith, ints, l, z))
-
     apart : (x y : ℤ) → x ≡ y → x -ℤ y ≡ pos 0
     apart x y z = omega (arith, ints, z)
+
+pub cancel : (a b k : ℤ) → pos 0 <ℤ k → a *ℤ k ≡ b *ℤ k → a ≡ b
+cancel a b k h e = cancel_other a b k (positive_some k h) e
 
 -- positive numbers that are multiples of each other are equal
 pub equal_multiples : (a b k l : ℤ) → pos 0 <ℤ a → pos 0 <ℤ b → a ≡ k *ℤ b → b ≡ l *ℤ a → a ≡ b
@@ -110,7 +110,7 @@ sign_not_right (negsuc n) h e = absurd (omega (arith, ints, h))
 
 -- ---- coordinates
 
-abbrev at : ℕ → Vector → ℤ
+abbrev pub at : ℕ → Vector → ℤ
 at i v = slice_index_or (numbers v) i (pos 0)
 
 at_reached : (i : ℕ) (a b c : Vector) (s t : ℤ) → at i (reached a b c s t) ≡ at i a +ℤ (s *ℤ (at i b -ℤ at i a) +ℤ t *ℤ (at i c -ℤ at i a))
@@ -143,16 +143,22 @@ coordinate_balance k a b c d m n e = by (coordinate k c) (coordinate k d) (m *�
 abbrev pub flat : ℤ → ℤ → ℤ → ℤ → ℤ → ℤ → ℤ
 flat ai aj bi bj ci cj = (bi -ℤ ai) *ℤ (cj -ℤ aj) -ℤ (bj -ℤ aj) *ℤ (ci -ℤ ai)
 
-abbrev flatE : Expression → Expression → Expression → Expression → Expression → Expression → Expression
+abbrev pub flatE : Expression → Expression → Expression → Expression → Expression → Expression → Expression
 flatE ai aj bi bj ci cj = minus (times (minus bi ai) (minus cj aj)) (times (minus bj aj) (minus ci ai))
 
 -- the area of the points at these places of the list of variables
-abbrev areaE : ℕ → ℕ → ℕ → Expression
+abbrev pub areaE : ℕ → ℕ → ℕ → Expression
 areaE a b c = flatE (var a) (var (suc a)) (var b) (var (suc b)) (var c) (var (suc c))
 
 -- a + s (b - a) + t (c - a), in one coordinate
-abbrev reachE : Expression → Expression → Expression → Expression → Expression → Expression
+abbrev pub reachE : Expression → Expression → Expression → Expression → Expression → Expression
 reachE a b c s t = plus a (plus (times s (minus b a)) (times t (minus c a)))
+
+-- the area of three points, from a fourth
+pub area_split : (q : ℕ × ℕ) (o a b c : Vector) → area q a b c ≡ area q o a b +ℤ area q o b c +ℤ area q o c a
+area_split q o a b c =
+    ring (coordinate q.0 o ∷ coordinate q.1 o ∷ coordinate q.0 a ∷ coordinate q.1 a ∷ coordinate q.0 b ∷ coordinate q.1 b ∷ coordinate q.0 c ∷ coordinate q.1 c ∷ [])
+    (areaE 2 4 6) (plus (plus (areaE 0 2 4) (areaE 0 4 6)) (areaE 0 6 2)) refl
 
 pub area_turn : (q : ℕ × ℕ) (a b c : Vector) → area q b c a ≡ area q a b c
 area_turn q a b c =

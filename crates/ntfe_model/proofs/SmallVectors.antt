@@ -8,6 +8,9 @@ use Rattle.ntfe_nums.specs.Sizes.{AreWithin}
 use Rattle.ntfe_model.specs.Pairs.{VertexLists, IsSmall}
 use Rattle.ntfe_model.specs.Points.{IsInside}
 
+abbrev pub IsSmallNumber : ℤ → Type 0
+IsSmallNumber z = (negsuc 1022 ≤ℤ z) × (z ≤ℤ pos 1023)
+
 pub small_size : (z : ℤ) → negsuc 1022 ≤ℤ z → z ≤ℤ pos 1023 → unsigned_abs z ≤ 1023
 small_size z h k = omega (arith, ints)
 

@@ -1,5 +1,5 @@
 -- Lists of oriented triples: sides and corners, deciding them, and the lemma that triples of positive area with paired sides are none.
-use Rattle.std.proofs.Common.{◌≡◌, ◌≢◌, ℕ, zero, suc, ◌⊎◌, inl, inr, ⊎_elim, refl, sym, ap, ◌∙◌, subst, arith, ℤ, pos, ◌+ℤ◌, ◌-ℤ◌, ◌*ℤ◌, List, [], ◌∷◌}
+use Rattle.std.proofs.Common.{◌≡◌, ◌≢◌, ℕ, zero, suc, ◌⊎◌, inl, inr, ⊎_elim, refl, sym, ap, ◌∙◌, subst, arith, ℤ, pos, ◌+ℤ◌, ◌-ℤ◌, ◌*ℤ◌, List, [], ◌∷◌, unsigned_abs}
 use Rattle.std.specs.Prelude.{Contains, ⊤}
 use Rattle.std.proofs.lemmas.Int.{ints}
 use Rattle.ntfe_nums.specs.Vectors.{Vector, coordinate, area, sign}
@@ -8,6 +8,7 @@ use Rattle.ntfe_model.specs.declared.triangle.Triangle.{Triangle}
 use Rattle.ntfe_model.proofs.Listings.{Contains-here, Contains-there, Contains-cases, Contains-none}
 use Rattle.ntfe_model.proofs.Areas.{cross, cross_back, area_is, area_total, sides, AreDistinct, paired_total, positive_total, IsPositive, reverse_side}
 use Rattle.ntfe_nums.proofs.Ring.{ring}
+use Rattle.ntfe_nums.proofs.VectorLemmas.{same4}
 use Rattle.ntfe_nums.proofs.Ring.Expression.{var, num, minus, times}
 
 -- ---- decisions
@@ -20,6 +21,23 @@ decide_number zero zero = inl refl
 decide_number zero (suc y) = inr (λ e. absurd (omega (arith, e)))
 decide_number (suc x) zero = inr (λ e. absurd (omega (arith, e)))
 decide_number (suc x) (suc y) = ⊎_elim (λ e. inl (ap suc e)) (λ n. inr (λ e. n (omega (arith, e)))) (decide_number x y)
+
+pub decide_integer : (a b : ℤ) → Decided (a ≡ b)
+decide_integer a b = ⊎_elim (λ e. inl (omega (arith, ints, e))) (λ n. inr (λ p. n (omega (arith, ints, p)))) (decide_number (unsigned_abs (a -ℤ b)) 0)
+
+pub decide_vector : (a b : Vector) → Decided (a ≡ b)
+decide_vector a b = by (decide_integer a.x1 b.x1) (decide_integer a.x2 b.x2) (decide_integer a.x3 b.x3) (decide_integer a.x4 b.x4)
+  where
+    by : Decided (a.x1 ≡ b.x1) → Decided (a.x2 ≡ b.x2) → Decided (a.x3 ≡ b.x3) → Decided (a.x4 ≡ b.x4) → Decided (a ≡ b)
+    by (inl p) (inl q) (inl r) (inl s) = inl (same4 a b p q r s)
+    by (inr n) q r s = inr (λ e. n (ap (λ v. v.x1) e))
+    by (inl p) (inr n) r s = inr (λ e. n (ap (λ v. v.x2) e))
+    by (inl p) (inl q) (inr n) s = inr (λ e. n (ap (λ v. v.x3) e))
+    by (inl p) (inl q) (inl r) (inr n) = inr (λ e. n (ap (λ v. v.x4) e))
+
+pub decide_not : {A : Type 0} → Decided A → Decided (A → ⊥)
+decide_not (inl a) = inr (λ n. n a)
+decide_not (inr n) = inl n
 
 pub decide_either : {A B : Type 0} → Decided A → Decided B → Decided (A ⊎ B)
 decide_either (inl a) q = inl (inl a)

@@ -1,5 +1,5 @@
 -- What comparisons of numbers and tests of truth values say.
-use Rattle.std.proofs.Common.{◌≡◌, ◌≢◌, ◌==◌, ◌&&◌, not, ℕ, Bool, true, false, refl, ap, arith, ℤ, pos, ◌<ℤ◌, ◌≤ℤ◌, cond}
+use Rattle.std.proofs.Common.{◌≡◌, ◌≢◌, ◌==◌, ◌&&◌, ◌*◌, ◌<◌, nat_le, not, ℕ, zero, suc, Bool, true, false, refl, ap, arith, ℤ, pos, ◌<ℤ◌, ◌≤ℤ◌, cond}
 use lib.Signed.{lt_z}
 use Rattle.std.specs.Ordering.{int_eq}
 use Rattle.std.proofs.lemmas.Int.{ints}
@@ -33,6 +33,14 @@ other_from_test m n e q = absurd (grind (arith, nat_tests))
 
 pub test_from_same : (m n : ℕ) → m ≡ n → (m == n) ≡ true
 test_from_same m n e = grind (arith, nat_tests)
+
+pub not_le : (m n : ℕ) → n < m → nat_le m n ≡ false
+not_le m n h = grind (arith, nat_tests)
+
+-- a multiple below the number itself is none
+pub small_factor : (n d : ℕ) → n * d < d → n ≡ 0
+small_factor zero d h = refl
+small_factor (suc m) d h = absurd (omega arith)
 
 -- ---- whole numbers
 

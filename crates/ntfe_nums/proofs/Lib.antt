@@ -1,8 +1,10 @@
 pub mod Comparisons
 pub mod DetLemmas
 pub mod Exchanges
+pub mod FourTerms
 pub mod LevelLemmas
 pub mod Machine
 pub mod Ring
 pub mod SideLemmas
 pub mod Signs
+pub mod VectorLemmas

@@ -5,7 +5,7 @@ use Rattle.ntfe_nums.proofs.Ring.{ring}
 use Rattle.ntfe_nums.proofs.Ring.Expression.{plus, minus, neg}
 use Rattle.ntfe_nums.proofs.DetLemmas.{Row, row, dotE, of4, side-normal}
 
-abbrev differenceE : Row → Row → Row
+abbrev pub differenceE : Row → Row → Row
 differenceE a b = record { x1 = minus a.x1 b.x1; x2 = minus a.x2 b.x2; x3 = minus a.x3 b.x3; x4 = minus a.x4 b.x4 }
 
 moved : (n x a : Vector) → dot n (difference x a) ≡ dot n x +ℤ neg_ℤ (dot n a)

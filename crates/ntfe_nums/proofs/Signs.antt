@@ -1,5 +1,5 @@
 -- Signs of whole numbers, of their sums and of their products.
-use Rattle.std.proofs.Common.{◌≡◌, ◌≢◌, ℕ, zero, suc, ◌==◌, ◌⊎◌, inl, inr, ⊎_elim, Bool, true, false, refl, ap, ◌∙◌, subst, arith, ℤ, pos, negsuc, ◌+ℤ◌, ◌-ℤ◌, ◌*ℤ◌, ◌<ℤ◌, ◌≤ℤ◌, neg_ℤ, unsigned_abs, ◌<◌, w64, of_z, [], ◌∷◌}
+use Rattle.std.proofs.Common.{◌≡◌, ◌≢◌, ℕ, zero, suc, ◌==◌, ◌⊎◌, inl, inr, ⊎_elim, Bool, true, false, refl, ap, ◌∙◌, subst, arith, ℤ, pos, negsuc, ◌+ℤ◌, ◌-ℤ◌, ◌*ℤ◌, ◌<ℤ◌, ◌≤ℤ◌, neg_ℤ, unsigned_abs, ◌<◌, w64, of_z, to_z, [], ◌∷◌}
 use Rattle.std.proofs.lemmas.Int.{ints}
 use Rattle.std.proofs.lemmas.Bool.Decides.{nat_tests}
 use Rattle.ntfe_nums.proofs.Ring.{ring}
@@ -43,11 +43,40 @@ not_negative z l = omega (arith, ints, l)
 pub positive_some : (z : ℤ) → pos 0 <ℤ z → z ≢ pos 0
 positive_some z l e = absurd (omega (arith, ints, l, e))
 
+pub zero_not_negative : (z : ℤ) → z ≡ pos 0 → pos 0 ≤ℤ z
+zero_not_negative z e = omega (arith, ints, e)
+
+pub zero_between : (z : ℤ) → pos 0 ≤ℤ z → z ≤ℤ pos 0 → z ≡ pos 0
+zero_between z h k = omega (arith, ints, h, k)
+
+pub negative_turned : (z : ℤ) → z <ℤ pos 0 → pos 0 <ℤ neg_ℤ z
+negative_turned z h = omega (arith, ints, h)
+
+pub positive_same : (x y : ℤ) → x ≡ y → pos 0 <ℤ x → pos 0 <ℤ y
+positive_same x y e l = let P : ℤ → Type 0 = λ z. pos 0 <ℤ z in subst P e l
+
+pub not_both_signs : (x y : ℤ) → x ≡ y → x ≤ℤ pos 0 → pos 0 <ℤ y → ⊥
+not_both_signs x y e h k = absurd (omega (arith, ints, e, h, k))
+
 pub some_size : (z : ℤ) → pos 0 <ℤ z → 0 < unsigned_abs z
 some_size z h = omega (arith, ints)
 
 pub size_zero : (z : ℤ) → unsigned_abs z ≡ 0 → z ≡ pos 0
 size_zero z e = omega (arith, ints, e)
+
+-- ---- orders
+
+pub three_orders : (m n : ℕ) → (m < n) ⊎ ((m ≡ n) ⊎ (n < m))
+three_orders m n = grind arith
+
+pub two_orders : (m n : ℕ) → m ≢ n → (m < n) ⊎ (n < m)
+two_orders m n d = grind (arith, d)
+
+pub less_or_least : (y z : ℤ) → (y ≤ℤ z) ⊎ (z ≤ℤ y)
+less_or_least y z = grind (arith, ints)
+
+pub least_once : (y z : ℤ) → y ≤ℤ z → z ≤ℤ y → y ≡ z
+least_once y z h k = omega (arith, ints, h, k)
 
 -- ---- sums
 
@@ -56,6 +85,15 @@ zero_minus z = omega (arith, ints)
 
 pub no_difference : (a b : ℤ) → b -ℤ a ≡ pos 0 → a ≡ b
 no_difference a b e = omega (arith, ints, e)
+
+pub same_numbers_apart : (a b : ℤ) → a ≡ b → a -ℤ b ≡ pos 0
+same_numbers_apart a b e = omega (arith, ints, e)
+
+pub none_apart : (a b : ℤ) → a -ℤ b ≡ pos 0 → a ≡ b
+none_apart a b e = omega (arith, ints, e)
+
+pub sum_positive : (y z : ℤ) → pos 0 <ℤ y → pos 0 <ℤ z → pos 0 <ℤ (y +ℤ z)
+sum_positive y z l m = omega (arith, ints, l, m)
 
 pub sum_not_negative : (y z : ℤ) → pos 0 ≤ℤ y → pos 0 ≤ℤ z → pos 0 ≤ℤ (y +ℤ z)
 sum_not_negative y z l m = omega (arith, ints, l, m)
@@ -114,6 +152,9 @@ square_positive z n = ⊎_elim (λ p. positive_product z z p p) (λ p. subst (λ
     sides z n = grind (arith, ints)
 
 -- ---- words of 64 bits
+
+abbrev pub word : ℤ → ℤ
+word z = to_z w64 (of_z w64 z)
 
 pub bits_of_zero : (z : ℤ) → z ≡ pos 0 → of_z w64 z ≡ 0
 bits_of_zero z e = ap (of_z w64) e
