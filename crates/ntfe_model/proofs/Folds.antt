@@ -6,7 +6,7 @@
 use Rattle.std.proofs.Common.{◌≡◌, ◌≢◌, ℕ, zero, suc, ◌*◌, ◌-◌, ◌<◌, ◌≤◌, ◌⊎◌, inl, inr, refl, sym, ap, ◌∙◌, subst, arith, ℤ, pos, negsuc, ◌+ℤ◌, ◌-ℤ◌, ◌*ℤ◌, neg_ℤ, unsigned_abs, List, [], ◌∷◌, get_or}
 use Rattle.std.specs.Prelude.{Contains}
 use Rattle.std.proofs.lemmas.Int.{ints, unsigned_abs-mul}
-use Rattle.ntfe_nums.specs.Vectors.{Vector, numbers, coordinate, area, sign, vector_sum, multiple}
+use Rattle.ntfe_nums.specs.Vectors.{Vector, numbers, coordinate, area, vector_sum, multiple}
 use Rattle.ntfe_model.specs.Charts.{Patch, IsUnit, axes, place, reached}
 use Rattle.ntfe_model.specs.Triangulations.{IsRotationOf, IsFine}
 use Rattle.ntfe_model.specs.Choices.{IsInnerEdge, AreOpposite, IsFoldOf}
@@ -14,7 +14,7 @@ use Rattle.ntfe_model.specs.declared.triangle.Triangle.{Triangle}
 use Rattle.ntfe_model.specs.declared.triangulation.Triangulation.{Triangulation}
 use Rattle.ntfe_model.specs.declared.nogood.Fold.{Fold}
 use Rattle.ntfe_model.proofs.Areas.{IsPositive, positive_is}
-use Rattle.ntfe_model.proofs.Triples.{AreThree, area_next, positive_three, third_point, corner_side, corner_same}
+use Rattle.ntfe_model.proofs.Triples.{AreThree, positive_three, third_point, corner_side, corner_same}
 use Rattle.ntfe_model.proofs.PlaneNumbers.{flat, flatE, reachE, coordinate_reached}
 use Rattle.ntfe_model.proofs.UnitTriples.{unit_turn, reached_balance}
 use Rattle.ntfe_nums.proofs.Ring.{Expression, ring}
