@@ -8,7 +8,7 @@ use Rattle.std.specs.List.{list_any}
 use Rattle.std.proofs.lemmas.Bool.Decides.{nat_tests}
 use Rattle.std.proofs.lemmas.List.Kept.{AllPairs-cons}
 use Rattle.std.proofs.lemmas.List.Elements.{All-contains}
-use Rattle.ntfe_nums.proofs.Comparisons.{same_from_test, both}
+use Rattle.ntfe_nums.proofs.Comparisons.{same_from_test, both, other_from_test}
 use Rattle.ntfe_model.specs.Lists.{IsBefore2}
 use Rattle.ntfe_model.specs.Charts.{Patch, AreSteps, IsStep}
 use Rattle.ntfe_model.specs.Triangulations.{IsSide, IsFine}
@@ -19,10 +19,11 @@ use Rattle.ntfe_model.specs.declared.triangulation.Triangulation.{Triangulation}
 use Rattle.ntfe_model.specs.declared.nogood.Fold.{Fold}
 use Rattle.ntfe_model.proofs.Listings.{Contains-here, Contains-there, Contains-cases, Contains-none, AllPairs-head, AllPairs-tail, All-from_contains, listing_unique}
 use Rattle.ntfe_model.proofs.Areas.{sides}
-use Rattle.ntfe_model.proofs.Triples.{Decided, decide_number, decide_both, decide_is_side, in_sides, from_sides}
+use Rattle.ntfe_model.proofs.Triples.{Decided, decide_number, decide_both, decide_is_side, in_sides, from_sides, decide_not}
 use Rattle.face_chart.proofs.Walk.{with_step_only, with_step_has, with_step_keeps, any_contains}
-use Rattle.face_chart.proofs.WordExists.{Earlier, contains_any, word_from_steps}
+use Rattle.face_chart.proofs.WordExists.{contains_any, word_from_steps}
 use Rattle.ntfe_model.proofs.Folds.{fold_exists, fold_edge, fold_unique}
+use Rattle.ntfe_model.proofs.Orders.{FoldBefore, EdgeBefore, before_once}
 
 -- ---- the order of steps
 
@@ -44,10 +45,7 @@ lt_is x y e = grind (arith, nat_tests)
 not_lt : (x y : ℕ) → nat_lt x y ≡ false → y ≤ x
 not_lt x y e = grind (arith, nat_tests)
 
-not_eq : (x y : ℕ) → (x == y) ≡ false → x ≢ y
-not_eq x y e p = grind (arith, nat_tests)
-
-pub before_is : (e f : ℕ × ℕ) → is_before e f ≡ true → Earlier e f
+pub before_is : (e f : ℕ × ℕ) → is_before e f ≡ true → EdgeBefore e f
 before_is e f h =
     ⊎_elim (λ p. inl (lt_is e.0 f.0 p)) (λ p. (let q = both (e.0 == f.0) (nat_lt e.1 f.1) p in inr (same_from_test e.0 f.0 q.0, lt_is e.1 f.1 q.1)))
     (either_true (nat_lt e.0 f.0) ((e.0 == f.0) && nat_lt e.1 f.1) h)
@@ -63,14 +61,14 @@ numbers_before a b i j l p n = by (decide_number a i) p
     by (inl e) (inl m) = absurd (m e)
     by (inl e) (inr m) = inr (sym e, strict j b m (n e))
 
-pub not_before : (e f : ℕ × ℕ) → is_before e f ≡ false → e ≢ f → Earlier f e
+pub not_before : (e f : ℕ × ℕ) → is_before e f ≡ false → e ≢ f → EdgeBefore f e
 not_before e f h n =
     let p = either_false (nat_lt e.0 f.0) ((e.0 == f.0) && nat_lt e.1 f.1) h in
     numbers_before e.0 e.1 f.0 f.1 (not_lt e.0 f.0 p.0)
-    (⊎_elim (λ q. inl (not_eq e.0 f.0 q)) (λ q. inr (not_lt e.1 f.1 q)) (and_false (e.0 == f.0) (nat_lt e.1 f.1) p.1))
+    (⊎_elim (λ q. inl (other_from_test e.0 f.0 q)) (λ q. inr (not_lt e.1 f.1 q)) (and_false (e.0 == f.0) (nat_lt e.1 f.1) p.1))
     (λ q r. n (λ i. (q i, r i)))
 
-earlier_chain : (e f g : ℕ × ℕ) → Earlier e f → Earlier f g → Earlier e g
+earlier_chain : (e f g : ℕ × ℕ) → EdgeBefore e f → EdgeBefore f g → EdgeBefore e g
 earlier_chain e f g p q = chain e.0 e.1 f.0 f.1 g.0 g.1 p q
   where
     chain : (a b i j x y : ℕ) → IsBefore2 a b i j → IsBefore2 i j x y → IsBefore2 a b x y
@@ -79,27 +77,27 @@ earlier_chain e f g p q = chain e.0 e.1 f.0 f.1 g.0 g.1 p q
     chain a b i j x y (inr p) (inl q) = inl (let r = p.0 in omega (arith, q, r))
     chain a b i j x y (inr p) (inr q) = inr (p.0 ∙ q.0, (let r = p.1 in let s = q.1 in omega (arith, r, s)))
 
-pub with_step_ordered : (e : ℕ × ℕ) (fs : List (ℕ × ℕ)) → AllPairs Earlier fs → ¬ (Contains fs e) → AllPairs Earlier (with_step e fs)
-with_step_ordered e [] o n = AllPairs-cons Earlier e [] (All-from_contains (Earlier e) [] (λ g k. Contains-none g k)) o
-with_step_ordered e (f ∷ fs) o n = by (is_before e f) refl (with_step_ordered e fs (AllPairs-tail Earlier f fs o) (λ k. n (Contains-there e f fs k)))
+pub with_step_ordered : (e : ℕ × ℕ) (fs : List (ℕ × ℕ)) → AllPairs EdgeBefore fs → ¬ (Contains fs e) → AllPairs EdgeBefore (with_step e fs)
+with_step_ordered e [] o n = AllPairs-cons EdgeBefore e [] (All-from_contains (EdgeBefore e) [] (λ g k. Contains-none g k)) o
+with_step_ordered e (f ∷ fs) o n = by (is_before e f) refl (with_step_ordered e fs (AllPairs-tail EdgeBefore f fs o) (λ k. n (Contains-there e f fs k)))
   where
-    head : (g : ℕ × ℕ) → Contains fs g → Earlier f g
-    head g k = All-contains (Earlier f) fs g (AllPairs-head Earlier f fs o) k
+    head : (g : ℕ × ℕ) → Contains fs g → EdgeBefore f g
+    head g k = All-contains (EdgeBefore f) fs g (AllPairs-head EdgeBefore f fs o) k
 
-    by : (b : Bool) → is_before e f ≡ b → AllPairs Earlier (with_step e fs) → AllPairs Earlier (cond b (e ∷ f ∷ fs) (f ∷ with_step e fs))
+    by : (b : Bool) → is_before e f ≡ b → AllPairs EdgeBefore (with_step e fs) → AllPairs EdgeBefore (cond b (e ∷ f ∷ fs) (f ∷ with_step e fs))
     by true p go =
         let l = before_is e f p in
-        AllPairs-cons Earlier e (f ∷ fs)
-        (All-from_contains (Earlier e) (f ∷ fs) (λ g k. ⊎_elim (λ q. (let P : ℕ × ℕ → Type 0 = λ z. Earlier e z in subst P (sym q) l)) (λ m. earlier_chain e f g l (head g m)) (Contains-cases g f fs k))) o
+        AllPairs-cons EdgeBefore e (f ∷ fs)
+        (All-from_contains (EdgeBefore e) (f ∷ fs) (λ g k. ⊎_elim (λ q. (let P : ℕ × ℕ → Type 0 = λ z. EdgeBefore e z in subst P (sym q) l)) (λ m. earlier_chain e f g l (head g m)) (Contains-cases g f fs k))) o
     by false p go =
         let l = not_before e f p (λ q. n (Contains-here e f fs q)) in
-        AllPairs-cons Earlier f (with_step e fs)
-        (All-from_contains (Earlier f) (with_step e fs) (λ g k. ⊎_elim (λ m. head g m) (λ q. (let P : ℕ × ℕ → Type 0 = λ z. Earlier f z in subst P (sym q) l)) (with_step_only e fs g k))) go
+        AllPairs-cons EdgeBefore f (with_step e fs)
+        (All-from_contains (EdgeBefore f) (with_step e fs) (λ g k. ⊎_elim (λ m. head g m) (λ q. (let P : ℕ × ℕ → Type 0 = λ z. EdgeBefore f z in subst P (sym q) l)) (with_step_only e fs g k))) go
 
 -- ---- the sides with a property, in order
 
 pub record IsPicked (P : ℕ × ℕ → Type 0) (es fs : List (ℕ × ℕ)) : Type 0 where
-  pub ordered : AllPairs Earlier fs
+  pub ordered : AllPairs EdgeBefore fs
   pub within : (e : ℕ × ℕ) → Contains fs e → Contains es e
   pub passes : (e : ℕ × ℕ) → Contains fs e → P e
   pub covers : (e : ℕ × ℕ) → Contains es e → P e → Contains fs e
@@ -155,10 +153,6 @@ picked P decide (e ∷ es) = split (picked P decide es)
     split : (fs : List (ℕ × ℕ)) × IsPicked P es fs → (gs : List (ℕ × ℕ)) × IsPicked P (e ∷ es) gs
     split (fs, r) = by fs r (decide e) (decide_contains fs e)
 
-pub decide_not : {A : Type 0} → Decided A → Decided (A → ⊥)
-decide_not (inl a) = inr (λ n. n a)
-decide_not (inr n) = inl n
-
 -- ---- the boundary steps and the word
 
 pub steps_exist : (h : Patch) (us : List Triangle) → IsFine h us → (steps : List (ℕ × ℕ)) × AreSteps h steps
@@ -178,16 +172,13 @@ word_exists h us fine = let s = steps_exist h us fine in word_from_steps h us s.
 
 -- ---- the folds
 
-abbrev FoldBefore : Fold → Fold → Type 0
-FoldBefore q r = IsBefore2 q.a q.b r.a r.b
-
 record AreFoldsOf (h : Patch) (x : Triangulation) (es : List (ℕ × ℕ)) (rs : List Fold) : Type 0 where
   ordered : AllPairs FoldBefore rs
   sound : (r : Fold) → Contains rs r → IsFoldOf h x r
   edges : (r : Fold) → Contains rs r → Contains es (r.a, r.b)
   covers : (e : ℕ × ℕ) → Contains es e → (r : Fold) × Contains rs r × (r.a ≡ e.0) × (r.b ≡ e.1)
 
-folds_of_edges : (h : Patch) (x : Triangulation) → IsFine h x.triangles → (es : List (ℕ × ℕ)) → AllPairs Earlier es
+folds_of_edges : (h : Patch) (x : Triangulation) → IsFine h x.triangles → (es : List (ℕ × ℕ)) → AllPairs EdgeBefore es
     → ((e : ℕ × ℕ) → Contains es e → IsInnerEdge x.triangles e.0 e.1) → (rs : List Fold) × AreFoldsOf h x es rs
 folds_of_edges h x fine [] o inner = (
   [],
@@ -200,7 +191,7 @@ folds_of_edges h x fine [] o inner = (
 )
 folds_of_edges h x fine (e ∷ es) o inner =
     by (fold_exists h x fine e.0 e.1 (inner e (Contains-here e e es refl)))
-    (folds_of_edges h x fine es (AllPairs-tail Earlier e es o) (λ f k. inner f (Contains-there f e es k)))
+    (folds_of_edges h x fine es (AllPairs-tail EdgeBefore e es o) (λ f k. inner f (Contains-there f e es k)))
   where
     first : (a b i j m n : ℕ) → m ≡ a → n ≡ b → IsBefore2 a b i j → IsBefore2 m n i j
     first a b i j m n p q l = let A : ℕ → Type 0 = λ k. IsBefore2 k b i j in let B : ℕ → Type 0 = λ k. IsBefore2 m k i j in subst B (sym q) (subst A (sym p) l)
@@ -210,7 +201,7 @@ folds_of_edges h x fine (e ∷ es) o inner =
       f ∷ rs,
       record {
         ordered = AllPairs-cons FoldBefore f rs
-            (All-from_contains (FoldBefore f) rs (λ r k. first e.0 e.1 r.a r.b f.a f.b fa fb (All-contains (Earlier e) es (r.a, r.b) (AllPairs-head Earlier e es o) (go.edges r k))))
+            (All-from_contains (FoldBefore f) rs (λ r k. first e.0 e.1 r.a r.b f.a f.b fa fb (All-contains (EdgeBefore e) es (r.a, r.b) (AllPairs-head EdgeBefore e es o) (go.edges r k))))
             go.ordered;
         sound = λ r k. ⊎_elim (λ q. (let P : Fold → Type 0 = λ z. IsFoldOf h x z in subst P (sym q) ff)) (λ l. go.sound r l) (Contains-cases r f rs k);
         edges = λ r k. ⊎_elim (λ q. Contains-here (r.a, r.b) e es (λ i. ((ap (λ z. z.a) q ∙ fa) i, (ap (λ z. z.b) q ∙ fb) i)))
@@ -257,7 +248,4 @@ folds_exist h x fine = by (picked Inner decide (sides x.triangles))
 
 -- and there is only one such list
 pub folds_fixed : (h : Patch) (x : Triangulation) (qs rs : List Fold) → AreFolds h x qs → AreFolds h x rs → qs ≡ rs
-folds_fixed h x qs rs l m = listing_unique FoldBefore (IsFoldOf h x) (λ q r p s. strict q.a q.b r.a r.b p s) qs rs l m
-  where
-    strict : (a b c d : ℕ) → IsBefore2 a b c d → IsBefore2 c d a b → ⊥
-    strict a b c d p q = absurd (grind arith)
+folds_fixed h x qs rs l m = listing_unique FoldBefore (IsFoldOf h x) (λ q r p s. before_once q.a q.b r.a r.b p s) qs rs l m

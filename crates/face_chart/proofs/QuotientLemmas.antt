@@ -1,15 +1,12 @@
 -- Quotients of small numbers.
-use Rattle.std.proofs.Common.{◌≡◌, ℕ, zero, suc, ◌+◌, ◌*◌, ◌<◌, ◌≤◌, ◌⊎◌, inl, inr, refl, sym, ap, ◌∙◌, subst, arith, ℤ, pos, ◌+ℤ◌, ◌-ℤ◌, ◌*ℤ◌, ◌<ℤ◌, [], ◌∷◌, unsigned_abs, w64, to_z, of_z, FitsSigned, mul-le-mul}
+use Rattle.std.proofs.Common.{◌≡◌, ℕ, ◌+◌, ◌*◌, ◌<◌, ◌≤◌, ◌⊎◌, inl, inr, refl, sym, ap, ◌∙◌, subst, arith, ℤ, pos, ◌+ℤ◌, ◌-ℤ◌, ◌*ℤ◌, ◌<ℤ◌, [], ◌∷◌, unsigned_abs, w64, to_z, of_z, FitsSigned, mul-le-mul}
 use Rattle.std.specs.Int.RustNames.{int_div, int_rem}
 use Rattle.std.proofs.lemmas.Int.{ints, quot-rem, rem_below, unsigned_abs-mul, quot_is, quot_fits, fits_signed_from_abs}
 use Rattle.ntfe_nums.proofs.Ring.{ring}
 use Rattle.ntfe_nums.proofs.Ring.Expression.{var, minus, times}
 use Rattle.ntfe_nums.proofs.Machine.{back}
-use Rattle.ntfe_nums.proofs.Signs.{size_zero, positive_bits}
-
-small_factor : (n d : ℕ) → n * d < d → n ≡ 0
-small_factor zero d h = refl
-small_factor (suc m) d h = absurd (omega arith)
+use Rattle.ntfe_nums.proofs.Signs.{size_zero, positive_bits, some_size}
+use Rattle.ntfe_nums.proofs.Comparisons.{small_factor}
 
 size_nat : (q a r d : ℕ) → q * d ≤ a + r → r < d → q ≤ a
 size_nat q a r d h l = by (le_or q a)
@@ -24,9 +21,6 @@ size_nat q a r d h l = by (le_or q a)
         let n : a * 1 ≤ a * d = mul-le-mul (let k : a ≤ a = omega arith in k) (let k : 1 ≤ d = omega arith in k) in
         absurd (omega (arith, m, n, h, l))
 
-positive_size : (d : ℤ) → pos 0 <ℤ d → 0 < unsigned_abs d
-positive_size d h = omega (arith, ints, h)
-
 -- a multiple of d divided by d
 pub exact_quotient : (s d : ℤ) → pos 0 <ℤ d → int_div (s *ℤ d) d ≡ s
 exact_quotient s d h =
@@ -34,7 +28,7 @@ exact_quotient s d h =
     let r = int_rem (s *ℤ d) d in
     let e : (s -ℤ q) *ℤ d ≡ s *ℤ d -ℤ q *ℤ d = ring (s ∷ q ∷ d ∷ []) (times (minus (var 0) (var 1)) (var 2)) (minus (times (var 0) (var 2)) (times (var 1) (var 2))) refl in
     let f : (s -ℤ q) *ℤ d ≡ r = e ∙ rest (q *ℤ d) r (s *ℤ d) (quot-rem (s *ℤ d) d) in
-    let z = small_factor (unsigned_abs (s -ℤ q)) (unsigned_abs d) (below _ _ _ (sym (unsigned_abs-mul (s -ℤ q) d) ∙ ap unsigned_abs f) (rem_below (s *ℤ d) d (positive_size d h))) in
+    let z = small_factor (unsigned_abs (s -ℤ q)) (unsigned_abs d) (below _ _ _ (sym (unsigned_abs-mul (s -ℤ q) d) ∙ ap unsigned_abs f) (rem_below (s *ℤ d) d (some_size d h))) in
     same s q (size_zero (s -ℤ q) z)
   where
     rest : (x y z : ℤ) → x +ℤ y ≡ z → z -ℤ x ≡ y
@@ -52,7 +46,7 @@ quotient_size a d h =
     let q = int_div a d in
     let r = int_rem a d in
     size_nat (unsigned_abs q) (unsigned_abs a) (unsigned_abs r) (unsigned_abs d)
-    (at_most _ _ _ (unsigned_abs-mul q d) (rest (q *ℤ d) r a (quot-rem a d))) (rem_below a d (positive_size d h))
+    (at_most _ _ _ (unsigned_abs-mul q d) (rest (q *ℤ d) r a (quot-rem a d))) (rem_below a d (some_size d h))
   where
     rest : (x y z : ℤ) → x +ℤ y ≡ z → unsigned_abs x ≤ unsigned_abs z + unsigned_abs y
     rest x y z g = omega (arith, ints, g)

@@ -7,6 +7,7 @@ use Rattle.ntfe_model.specs.Lists.{IsBefore2}
 use Rattle.ntfe_model.specs.Charts.{Patch, IsStep, AreSteps, spot_numbers}
 use Rattle.ntfe_model.proofs.Listings.{AllPairs-append, AllPairs-head, AllPairs-tail, Contains-here, Contains-there, Contains-cases, Contains-none}
 use Rattle.face_chart.specs.Steps.{IsStepWith, AddsSteps}
+use Rattle.ntfe_model.proofs.Orders.{EdgeBefore}
 
 -- ---- the first numbers of a list
 
@@ -66,9 +67,6 @@ taken_below (k ∷ ks) (suc i) x r l c = by (Contains-cases x k (take i ks) c) (
 
 -- ---- lists of steps
 
-abbrev before : ℕ × ℕ → ℕ × ℕ → Type 0
-before e f = IsBefore2 e.0 e.1 f.0 f.1
-
 module _ (h : Patch) where
   pub steps_none : (S : ℕ → ℕ → Type 0) (es : List (ℕ × ℕ)) → ((a b : ℕ) → IsStep h a b → S a b → ⊥) → AddsSteps h S es es
   steps_none S es none = record {
@@ -87,7 +85,7 @@ module _ (h : Patch) where
   steps_more S T R old mid new apart f g split a b = record {
     added = a.added ++ b.added;
     listing = record {
-      ordered = AllPairs-append before a.added b.added a.listing.ordered b.listing.ordered
+      ordered = AllPairs-append EdgeBefore a.added b.added a.listing.ordered b.listing.ordered
           (λ x y p q. apart x.0 x.1 y.0 y.1 (All-contains (IsStepWith h S) a.added x a.listing.sound p).numbers (All-contains (IsStepWith h T) b.added y b.listing.sound q).numbers);
       sound = All-append (IsStepWith h R) a.added b.added
           (All-weaker (IsStepWith h S) (IsStepWith h R) (λ x p. record { step = p.step; numbers = f x.0 x.1 p.numbers }) a.added a.listing.sound)

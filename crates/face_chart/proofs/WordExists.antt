@@ -19,6 +19,7 @@ use Rattle.ntfe_model.proofs.Triples.{Decided, decide_triple_of, decide_is_side,
 use Rattle.face_chart.proofs.Walk.{written_corner, corner_sides, Waits, waits_next, waits_first, after_only, after_keeps, with_step_only}
 use Rattle.face_chart.proofs.WordLemmas.{corner_in, walk_word}
 use Rattle.ntfe_model.proofs.Folds.{unit_three}
+use Rattle.ntfe_model.proofs.Orders.{EdgeBefore}
 
 abbrev Step : Type 0
 Step = ℕ × ℕ
@@ -308,12 +309,9 @@ walk_exists h us fine (suc n) rs ((a, b) ∷ fs) l w =
 
 -- ---- the boundary steps in order
 
-abbrev pub Earlier : ℕ × ℕ → ℕ × ℕ → Type 0
-Earlier e f = IsBefore2 e.0 e.1 f.0 f.1
-
-distinct_ordered : (fs : List (ℕ × ℕ)) → AllPairs Earlier fs → AreDistinct fs
+distinct_ordered : (fs : List (ℕ × ℕ)) → AllPairs EdgeBefore fs → AreDistinct fs
 distinct_ordered [] o = tt
-distinct_ordered (f ∷ fs) o = ((λ k. never f.0 f.1 (All-contains (Earlier f) fs f (AllPairs-head Earlier f fs o) k)), distinct_ordered fs (AllPairs-tail Earlier f fs o))
+distinct_ordered (f ∷ fs) o = ((λ k. never f.0 f.1 (All-contains (EdgeBefore f) fs f (AllPairs-head EdgeBefore f fs o) k)), distinct_ordered fs (AllPairs-tail EdgeBefore f fs o))
   where
     never : (a b : ℕ) → IsBefore2 a b a b → ⊥
     never a b p = absurd (grind (arith, p))

@@ -1,6 +1,6 @@
 use Rattle.std.proofs.Common.{◌∙◌, sym, refl, true, false}
 use Rattle.face_chart.specs.Tables.{patch}
-use Rattle.face_chart.proofs.SpanLemmas.{axes_are}
+use Rattle.ntfe_model.proofs.AxesLemmas.{axes_are}
 use Rattle.face_chart.proofs.span.axes_of.Goals as goal
 
 pub returns-then-spans-clause-value : goal.returns-then-spans-clause-value

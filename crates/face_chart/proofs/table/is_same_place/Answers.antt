@@ -1,13 +1,7 @@
-use Rattle.std.proofs.Common.{◌≡◌, ℤ, List, Bool, true, false, sym, ap, ◌∙◌}
+use Rattle.std.proofs.Common.{◌≡◌, Bool, true, false, sym, ◌∙◌}
 use Rattle.std.specs.Cmp.Rules.{signed_items}
-use Rattle.ntfe_nums.specs.Vectors.{Vector, vector, numbers}
+use Rattle.ntfe_nums.proofs.VectorLemmas.{same_vectors, same_numbers}
 use Rattle.face_chart.proofs.table.is_same_place.Goals as goal
-
-same_vectors : (xs ys : List ℤ) (v w : Vector) → vector xs ≡ v → vector ys ≡ w → xs ≡ ys → v ≡ w
-same_vectors xs ys v w p q e = sym p ∙ ap vector e ∙ q
-
-same_numbers : (xs ys : List ℤ) (v w : Vector) → xs ≡ numbers v → ys ≡ numbers w → v ≡ w → xs ≡ ys
-same_numbers xs ys v w p q e = p ∙ ap numbers e ∙ sym q
 
 both : (b : Bool) → b ≡ true → b ≡ false → ⊥
 both b e f = let g : true ≡ false = sym e ∙ f in cc

@@ -1,6 +1,5 @@
-use Rattle.std.proofs.Common.{◌≡◌, subst, arith, ℕ, ℤ, pos, ◌<ℤ◌, ◌≤ℤ◌, List, get_or}
+use Rattle.std.proofs.Common.{subst, ℕ, List, get_or}
 use Rattle.std.specs.Prelude.{Contains}
-use Rattle.std.proofs.lemmas.Int.{ints}
 use Rattle.std.proofs.lemmas.List.Elements.{All-contains, Contains-get_or}
 use Rattle.ntfe_model.specs.Charts.{spot_numbers}
 use Rattle.face_chart.specs.Units.{IsReached}
@@ -8,13 +7,8 @@ use Rattle.ntfe_model.proofs.FlatLemmas.{most_zero_from_test, over_zero_from_tes
 use Rattle.ntfe_model.proofs.PlaneNumbers.{sign_positive}
 use Rattle.ntfe_model.proofs.UnitTriples.{area_of, unit_area}
 use Rattle.face_chart.proofs.UnitLemmas.{kept_more, kept_all}
+use Rattle.ntfe_nums.proofs.Signs.{positive_same, not_both_signs}
 use Rattle.face_chart.proofs.units.is_unit.Goals as goal
-
-not_both : (x y : ℤ) → x ≡ y → x ≤ℤ pos 0 → pos 0 <ℤ y → ⊥
-not_both x y e h k = absurd (omega (arith, ints, e, h, k))
-
-above : (x y : ℤ) → x ≡ y → pos 0 <ℤ x → pos 0 <ℤ y
-above x y e l = let P : ℤ → Type 0 = λ z. pos 0 <ℤ z in subst P e l
 
 pub loop-p-preserved : goal.loop-p-preserved
 loop-p-preserved c =
@@ -30,7 +24,7 @@ returns c =
     record {
       when_true = λ t. record {
         points = (c.requires.a, c.requires.b, c.requires.c);
-        left = sign_positive (area_of g c.args.a c.args.b c.args.c) (above c.area.result _ c.area.ensures.value (over_zero_from_test c.area.result c.area.ensures.size c.if-area-le0.false));
+        left = sign_positive (area_of g c.args.a c.args.b c.args.c) (positive_same c.area.result _ c.area.ensures.value (over_zero_from_test c.area.result c.area.ensures.size c.if-area-le0.false));
         reaches = λ p o. All-contains R (spot_numbers g) p all o;
       };
       when_false = λ t. cc;
@@ -41,7 +35,7 @@ returns-then-area-le0 c =
     let g = c.args.table.now in
     record {
       when_true = λ t. cc;
-      when_false = λ t u. not_both c.area.result _ c.area.ensures.value (most_zero_from_test c.area.result c.area.ensures.size c.if-area-le0.true) (unit_area g c.args.a c.args.b c.args.c u);
+      when_false = λ t u. not_both_signs c.area.result _ c.area.ensures.value (most_zero_from_test c.area.result c.area.ensures.size c.if-area-le0.true) (unit_area g c.args.a c.args.b c.args.c u);
     }
 
 pub returns-then-not-reaches : goal.returns-then-not-reaches
