@@ -18,7 +18,7 @@ use Rattle.reflexive_pair.specs.declared.fault.PairFault.TheVariants.{Repeated, 
 no_repeat : (vs : List Vector) (i j : ℕ) → IsRepeated vs i j → ¬ (HasNoRepeat vs)
 no_repeat vs i j r h = let o = r.ordered in h (i - 1) (j - 1) origin (omega arith) (omega arith) r.same
 
-not_low : (z : ℤ) → negsuc 0 ≤ℤ z → ¬ (z <ℤ negsuc 0)
+pub not_low : (z : ℤ) → negsuc 0 ≤ℤ z → ¬ (z <ℤ negsuc 0)
 not_low z h k = omega (arith, ints)
 
 no_low : (p : VertexLists) (i j : ℕ) → HasLowProduct p i j → ¬ (HasNoLowProduct p)

@@ -1,6 +1,5 @@
 -- From first places, counted from 0, to least numbers, counted from 1.
-use Rattle.std.proofs.Common.{◌≡◌, ◌∙◌, ℕ, ◌+◌, ◌-◌, ◌<◌, ⊎_elim, sym, ap, subst, arith, negsuc, ◌≤ℤ◌, ◌<ℤ◌, ℤ, List, length}
-use Rattle.std.proofs.lemmas.Int.{ints}
+use Rattle.std.proofs.Common.{◌≡◌, ◌∙◌, ℕ, ◌+◌, ◌-◌, ◌<◌, ⊎_elim, sym, ap, subst, arith, negsuc, ◌≤ℤ◌, ◌<ℤ◌, List, length}
 use Rattle.std.proofs.lemmas.List.{get_or_default}
 use Rattle.std.specs.Prelude.{Contains}
 use Rattle.ntfe_nums.specs.Vectors.{Vector, dot, origin}
@@ -9,10 +8,8 @@ use Rattle.ntfe_model.specs.Pairs.{VertexLists, entry}
 use Rattle.ntfe_model.specs.Reflexive.{at, IsTightOnFour, HasLowProduct}
 use Rattle.reflexive_pair.specs.RuledOut.{HasNoLowProduct, AreTightOnFour}
 use Rattle.reflexive_pair.specs.Firsts.{IsHighBelow, IsFirstLow}
-
--- the entry with the number after a place
-pub entry-at : (vs : List Vector) (i : ℕ) → entry vs (i + 1) ≡ at vs i
-entry-at vs i = let e : (i + 1) - 1 ≡ i = omega arith in ap (at vs) e
+use Rattle.ntfe_model.proofs.Entries.{entry-at}
+use Rattle.reflexive_pair.proofs.CauseLemmas.{not_low}
 
 -- the entry at a place that is known by its number
 at_number : (vs : List Vector) (a i : ℕ) → a ≡ i + 1 → at vs i ≡ entry vs a
@@ -39,9 +36,6 @@ no_low_product p h m v cm cv =
 
 pub all_tight : (ms vs : List Vector) → ((k : ℕ) → k < length ms → IsTightOnFour (at ms k) vs) → AreTightOnFour ms vs
 all_tight ms vs h m c = let P : Vector → Type 0 = λ x. IsTightOnFour x vs in subst P (contained_at ms m c) (h c.0 c.1)
-
-not_low : (z : ℤ) → negsuc 0 ≤ℤ z → ¬ (z <ℤ negsuc 0)
-not_low z h k = omega (arith, ints)
 
 pub low_least : (p : VertexLists) (i j : ℕ) → i < length p.vertices → IsFirstLow (at p.vertices i) p.dual j → ((k : ℕ) → k < i → IsHighBelow (at p.vertices k) p.dual (length p.dual)) → IsLeast2 (HasLowProduct p) (i + 1) (j + 1)
 low_least p i j within h before = record {
