@@ -1,5 +1,5 @@
 -- The fold of an inner edge.
-use Rattle.std.proofs.Common.{◌≡◌, ◌≢◌, ℕ, ◌<◌, ◌≤◌, ◌⊎◌, inl, inr, sym, ap, ◌∙◌, subst, arith, ℤ, pos, ◌+ℤ◌, ◌-ℤ◌, List, w64, to_z, of_z, unsigned_abs}
+use Rattle.std.proofs.Common.{◌≡◌, ◌≢◌, ℕ, ◌<◌, ◌≤◌, ◌⊎◌, inl, inr, sym, ap, ◌∙◌, subst, arith, ℤ, pos, ◌+ℤ◌, ◌-ℤ◌, List, w64, unsigned_abs}
 use Rattle.std.proofs.lemmas.Int.{ints}
 use Rattle.ntfe_nums.specs.Vectors.{Vector, vector_sum, multiple}
 use Rattle.ntfe_nums.proofs.Machine.{back}
@@ -10,11 +10,9 @@ use Rattle.ntfe_model.specs.declared.nogood.Fold.{Fold}
 use Rattle.ntfe_model.proofs.Triples.{positive_apart}
 use Rattle.ntfe_model.proofs.Folds.{unit_corner, opposite_balance, opposite_apart, vector_swap}
 use Rattle.fold_rows.specs.Rows.{IsBalance, AreBalanced, IsThird, AreUnits, unspelled, IsFoldBetween}
+use Rattle.ntfe_nums.proofs.Signs.{word}
 
 -- ---- what the code computes
-
-abbrev word : ℤ → ℤ
-word z = to_z w64 (of_z w64 z)
 
 word_back : (n : ℤ) → unsigned_abs n ≤ 4092 → word n ≡ n
 word_back n s = back w64 n 4092 s (omega arith)

@@ -9,12 +9,9 @@ use Rattle.ntfe_nums.proofs.Ring.Expression.{var, plus, minus, times}
 use Rattle.ntfe_nums.proofs.Machine.{AreBounded, AreWithin-four, back, exact, fits, value-size}
 use Rattle.ntfe_model.proofs.FoldSizes.{size_above, factor_size, factor_product, no_gap}
 use Rattle.fold_rows.specs.Rows.{IsFactorAt, IsBalance}
+use Rattle.ntfe_nums.proofs.Comparisons.{small_factor}
 
 -- ---- exact quotients
-
-small_factor : (n d : ℕ) → n * d < d → n ≡ 0
-small_factor zero d h = refl
-small_factor (suc m) d h = absurd (omega arith)
 
 -- a multiple of d divided by d
 pub exact_quotient : (s d : ℤ) → d ≢ pos 0 → int_div (s *ℤ d) d ≡ s

@@ -17,9 +17,7 @@ use Rattle.ntfe_model.proofs.Triples.{third_point}
 use Rattle.ntfe_model.proofs.Folds.{unit_corner, fold_edge, fold_unique}
 use Rattle.fold_rows.specs.Rows.{HasPoint, AreAround, AreUnits, unspelled, AddsFolds}
 use Rattle.ntfe_model.proofs.FoldPlanes.{AreFoldsPositive, folds_give_above, above_gives_folds}
-
-abbrev before : Fold → Fold → Type 0
-before q r = IsBefore2 q.a q.b r.a r.b
+use Rattle.ntfe_model.proofs.Orders.{FoldBefore}
 
 -- ---- the triples around a point have the folds of its edges
 
@@ -55,7 +53,7 @@ module _ (h : Patch) (x : Triangulation) where
   pub adds_none : (S : ℕ → ℕ → Type 0) (rs : List Fold) → ((r : Fold) → IsFoldOf h x r → S r.a r.b → ⊥) → AddsFolds h x S rs rs
   adds_none S rs none = record {
     added = [];
-    listing = listing_nil before (λ r. IsFoldOf h x r × S r.a r.b) (λ r p. none r p.0 p.1);
+    listing = listing_nil FoldBefore (λ r. IsFoldOf h x r × S r.a r.b) (λ r p. none r p.0 p.1);
     small = All-nil IsSmallFold;
     items = sym (append-nil rs);
   }
@@ -78,7 +76,7 @@ module _ (h : Patch) (x : Triangulation) where
       → AddsFolds h x S old mid → AddsFolds h x T mid new → AddsFolds h x R old new
   adds_more S T R old mid new apart f g split a b = record {
     added = a.added ++ b.added;
-    listing = listing_append before (λ r. IsFoldOf h x r × S r.a r.b) (λ r. IsFoldOf h x r × T r.a r.b) (λ r. IsFoldOf h x r × R r.a r.b) a.added b.added a.listing b.listing
+    listing = listing_append FoldBefore (λ r. IsFoldOf h x r × S r.a r.b) (λ r. IsFoldOf h x r × T r.a r.b) (λ r. IsFoldOf h x r × R r.a r.b) a.added b.added a.listing b.listing
         (λ q r p o. apart q.a q.b r.a r.b p.1 o.1) (λ r p. (p.0, f r.a r.b p.1)) (λ r p. (p.0, g r.a r.b p.1)) (λ r p. ⊎_elim (λ s. inl (p.0, s)) (λ t. inr (p.0, t)) (split r.a r.b p.1));
     small = All-append IsSmallFold a.added b.added a.small b.small;
     items = b.items ∙ ap (λ rs. rs ++ b.added) a.items ∙ append_assoc old a.added b.added;
@@ -88,7 +86,7 @@ module _ (h : Patch) (x : Triangulation) where
       → AddsFolds h x S old new → AddsFolds h x T old new
   adds_same S T old new f g a = record {
     added = a.added;
-    listing = listing_same before (λ r. IsFoldOf h x r × S r.a r.b) (λ r. IsFoldOf h x r × T r.a r.b) a.added a.listing (λ r p. (p.0, f r p.0 p.1)) (λ r p. (p.0, g r p.0 p.1));
+    listing = listing_same FoldBefore (λ r. IsFoldOf h x r × S r.a r.b) (λ r. IsFoldOf h x r × T r.a r.b) a.added a.listing (λ r p. (p.0, f r p.0 p.1)) (λ r p. (p.0, g r p.0 p.1));
     small = a.small;
     items = a.items;
   }
@@ -153,7 +151,7 @@ module _ (h : Patch) (x : Triangulation) where
   upto_end fine n new l a =
       let P : List Fold → Type 0 = λ rs. AreFolds h x rs × All IsSmallFold rs in
       subst P (sym a.items) (
-        listing_same before (λ r. IsFoldOf h x r × Contains (take n (spot_numbers h)) r.a) (IsFoldOf h x) a.added a.listing (λ r p. p.0)
+        listing_same FoldBefore (λ r. IsFoldOf h x r × Contains (take n (spot_numbers h)) r.a) (IsFoldOf h x) a.added a.listing (λ r p. p.0)
             (λ r f. (f, (let Q = λ (ms : List ℕ). Contains ms r.a in subst Q (sym (take_all n (spot_numbers h) l)) (fold_points fine r f).0))),
         a.small,
       )
