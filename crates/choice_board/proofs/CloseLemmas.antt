@@ -1,6 +1,7 @@
 -- A key that is closed in code is settled as stated.
 use Rattle.std.proofs.Common.{◌≡◌, ◌≢◌, ◌∙◌, refl, sym, ap, subst, ◌⊎◌, inl, inr, ⊎_elim, ◌↔◌, ℕ, ◌<◌, List, [], ◌∷◌, ◌++◌, length, get_or, Option, Some, None}
-use Rattle.std.specs.Prelude.{Contains}
+use Rattle.std.specs.Prelude.{Contains, MatchOption, MatchResult, Result, Ok, Err}
+use Rattle.std.specs.Result.{result_ok}
 use Rattle.std.specs.List.{remove}
 use Rattle.std.proofs.lemmas.List.{get_or_default}
 use Rattle.std.proofs.lemmas.List.Elements.{All-contains}
@@ -8,7 +9,7 @@ use Rattle.ntfe_model.specs.Keys.{IsKey}
 use Rattle.ntfe_model.specs.declared.nogood.Nogood.{Nogood}
 use Rattle.ntfe_model.proofs.Listings.{Contains-here, Contains-there, Contains-cases, Contains-none}
 use Rattle.choice_board.specs.Verdicts.{IsTrueOf, opened_by, recorded_by, pruned_by}
-use Rattle.choice_board.specs.Rows.{IsFalling, IsFoundAt}
+use Rattle.choice_board.specs.Rows.{IsFalling, IsFoundAt, IsPlaceFor}
 use Rattle.choice_board.specs.Making.{new_by, raised_by, key_made, record_made, pruned_made}
 use Rattle.choice_board.specs.Places.{raised, first_under}
 use Rattle.choice_board.specs.States.{State, IsSound}
@@ -19,7 +20,7 @@ use Rattle.choice_board.specs.declared.record.Record.{Record}
 use Rattle.choice_board.specs.declared.totals.Totals.{Totals}
 use Rattle.choice_board.specs.declared.verdict.Verdict.{Verdict}
 use Rattle.choice_board.specs.declared.verdict.Verdict.TheVariants.{End, Pruned, Class, Wide, Far, Descend}
-use Rattle.choice_board.proofs.RowLemmas.{has_remove, falling_remove, some_is}
+use Rattle.choice_board.proofs.RowLemmas.{has_remove, falling_remove, some_is, absent}
 use Rattle.choice_board.proofs.SettleLemmas.{not_recorded, settled_sound}
 
 pub at_place : (keys : List (List ℕ)) (key : List ℕ) (place : ℕ) → IsFoundAt (λ k. k) keys key place → Contains keys key
@@ -101,11 +102,12 @@ opened_parts key Descend k = one_more (first_under key) (raised key) k
 
 -- ---- from what the calls say
 
-pub found_here : (keys seen : List (List ℕ)) (key numbers : List ℕ) (place : ℕ) → seen ≡ keys → numbers ≡ key → IsFoundAt (λ k. k) seen numbers place → IsFoundAt (λ k. k) keys key place
-found_here keys seen key numbers place e f p =
-    let P : List (List ℕ) → Type 0 = λ xs. IsFoundAt (λ k. k) xs numbers place in
-    let Q : List ℕ → Type 0 = λ ns. IsFoundAt (λ k. k) keys ns place in
-    subst Q f (subst P e p)
+-- where the numbers stand among the open keys, if they do
+pub found_place : (s : State) (key numbers : List ℕ) → numbers ≡ key → (r : Result ℕ ℕ)
+    → MatchResult r (λ i. IsFoundAt (λ k. k) s.open_keys numbers i) (λ i. IsPlaceFor (λ k. k) s.open_keys numbers i)
+    → MatchOption (result_ok r) (¬ (Contains s.open_keys key)) (λ i. IsFoundAt (λ k. k) s.open_keys key i)
+found_place s key numbers e (Ok i) h = let P : List ℕ → Type 0 = λ ns. IsFoundAt (λ k. k) s.open_keys ns i in subst P e h
+found_place s key numbers e (Err i) h = λ has. absent (λ k. k) s.open_keys numbers i h key has (sym e)
 
 pub own_is_key : (keys room : List (List ℕ)) (key own : List ℕ) (place : ℕ) → room ≡ keys → IsFoundAt (λ k. k) keys key place → own ≡ get_or room place own → own ≡ key
 own_is_key keys room key own place e p f = f ∙ ap (λ xs. get_or xs place own) e ∙ p.1 own

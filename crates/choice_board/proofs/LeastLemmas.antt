@@ -10,6 +10,7 @@ use Rattle.ntfe_model.proofs.Listings.{All-from_contains}
 use Rattle.ntfe_model.proofs.Orders.{below_once}
 use Rattle.choice_board.specs.States.{State, IsSound}
 use Rattle.choice_board.specs.Telling.{IsLeastOpen}
+use Rattle.choice_board.proofs.RowLemmas.{at_back}
 use denote.Ref.{Bor}
 
 last_is_least : (s : State) → IsSound s → (k : List ℕ) → 0 < length s.open_keys → k ≡ get_or s.open_keys (length s.open_keys - 1) k → IsLeastOpen s k
@@ -41,15 +42,12 @@ least_only s j k a b =
     (λ p. ⊎_elim (λ e. sym e) (λ q. absurd (below_once k j p q)) (All-contains (λ i. (i ≡ j) ⊎ IsBelow j i) s.open_keys k a.1 b.0))
     (All-contains (λ i. (i ≡ k) ⊎ IsBelow k i) s.open_keys j b.1 a.0)
 
--- what `last` of the open keys answers
-pub last_answers : (s : State) (seen : List (List ℕ)) → IsSound s → s.closed ≡ false → seen ≡ s.open_keys → (r : Option (Bor (List ℕ)))
-    → MatchOption r (length seen ≤ 0) (λ x. (0 < length seen) × HoldsAt (λ y. x.now ≡ y) seen (length seen - 1))
+-- what the end of the open keys answers, whose number was read
+pub last_answers : (s : State) (n : ℕ) → IsSound s → s.closed ≡ false → n ≡ length s.open_keys → (r : Option (Bor (List ℕ)))
+    → MatchOption r (length s.open_keys ≤ 0) (λ x. (0 < length s.open_keys) × HoldsAt (λ y. x.now ≡ y) s.open_keys (n - 1))
     → MatchOption r ((s.closed ≡ true) ⊎ (s.open_keys ≡ [])) (λ k. (s.closed ≡ false) × IsLeastOpen s k.now)
-last_answers s seen sound open_is e None h = inr (sym e ∙ nil_from_length seen (omega arith))
-last_answers s seen sound open_is e (Some x) h =
-    let P : List (List ℕ) → Type 0 = λ xs. (0 < length xs) × (x.now ≡ get_or xs (length xs - 1) x.now) in
-    let q = subst P e (h.0, h.1 x.now) in
-    (open_is, last_is_least s sound x.now q.0 q.1)
+last_answers s n sound open_is e None h = inr (nil_from_length s.open_keys (omega arith))
+last_answers s n sound open_is e (Some x) h = (open_is, last_is_least s sound x.now h.0 (at_back s.open_keys n x.now e (h.1 x.now)))
 
 pub mapped_more : {X : Type 0} (f : ℕ → X) (n : ℕ) (d : X) → map f (range_with_len 0 (n + 1)) ≡ map f (range_with_len 0 n) ++ f n ∷ []
 mapped_more f n d =

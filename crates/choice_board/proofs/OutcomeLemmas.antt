@@ -111,23 +111,11 @@ stopped_waits s b e f = inl (λ g. (let h : true ≡ false = sym f ∙ e ∙ ap 
 
 -- ---- from what the calls say
 
-pub first_through : (s : State) (recorded : List Record) (keys : List (List ℕ)) → recorded ≡ s.recorded → keys ≡ s.open_keys → ComesFirst recorded keys → ComesFirst s.recorded s.open_keys
-first_through s recorded keys e f h =
-    let P : List Record → Type 0 = λ xs. ComesFirst xs keys in
-    let Q : List (List ℕ) → Type 0 = ComesFirst s.recorded in
-    subst Q f (subst P e h)
-
-pub none_first_waits : (s : State) (recorded : List Record) (keys : List (List ℕ)) → IsSound s → recorded ≡ s.recorded → keys ≡ s.open_keys → ¬ (ComesFirst recorded keys) → IsWaiting s
-none_first_waits s recorded keys sound e f none =
-    let P : List Record → Type 0 = λ xs. ¬ (ComesFirst xs keys) in
-    let Q : List (List ℕ) → Type 0 = λ xs. ¬ (ComesFirst s.recorded xs) in
-    waits_otherwise s sound (subst Q f (subst P e none))
-
 -- whether something can be handed out
-pub tells_ready : (s : State) (recorded : List Record) (keys : List (List ℕ)) → IsSound s → recorded ≡ s.recorded → keys ≡ s.open_keys → s.stop ≡ None
-    → (b : Bool) → (b ≡ true → ComesFirst recorded keys) → (b ≡ false → ¬ (ComesFirst recorded keys)) → MatchBool b (HasNext s) (IsWaiting s)
-tells_ready s recorded keys sound e f running true first none = let h = first_through s recorded keys e f (first refl) in (running, (h.1, end_is_next s h.0 h.1 sound h.2 h.3))
-tells_ready s recorded keys sound e f running false first none = none_first_waits s recorded keys sound e f (none refl)
+pub tells_ready : (s : State) → IsSound s → s.stop ≡ None
+    → (b : Bool) → (b ≡ true → ComesFirst s.recorded s.open_keys) → (b ≡ false → ¬ (ComesFirst s.recorded s.open_keys)) → MatchBool b (HasNext s) (IsWaiting s)
+tells_ready s sound running true first none = let h = first refl in (running, (h.1, end_is_next s h.0 h.1 sound h.2 h.3))
+tells_ready s sound running false first none = waits_otherwise s sound (none refl)
 
 -- ---- what was found, from what is told
 

@@ -1,8 +1,9 @@
 -- Rows with one thing more or less: their order, and what they have.
-use Rattle.std.proofs.Common.{◌≡◌, ◌≢◌, ◌∙◌, refl, sym, ap, subst, ◌⊎◌, inl, inr, ⊎_elim, ◌↔◌, ℕ, suc, ◌+◌, ◌<◌, ◌≤◌, List, [], ◌∷◌, ◌++◌, length, take, drop, get_or, map, Some, arith, length-drop, drop-cons}
+use Rattle.std.proofs.Common.{◌≡◌, ◌≢◌, ◌∙◌, refl, sym, ap, subst, ◌⊎◌, inl, inr, ⊎_elim, ◌↔◌, ℕ, suc, ◌+◌, ◌-◌, ◌<◌, ◌≤◌, List, [], ◌∷◌, ◌++◌, length, take, drop, get_or, map, Some, Bool, true, nat_eq, arith, length-drop, drop-cons}
 use Rattle.std.specs.Prelude.{AllPairs, Contains}
 use Rattle.std.specs.List.{insert, remove}
-use Rattle.std.proofs.lemmas.List.{get_or_default, take-append-drop, get_or-take, get_or-drop, length-take}
+use Rattle.std.proofs.lemmas.List.{get_or_default, nil_from_length, take-append-drop, get_or-take, get_or-drop, length-take}
+use Rattle.std.proofs.lemmas.Bool.Decides.{nat_tests}
 use Rattle.std.proofs.lemmas.List.Elements.{Contains-get_or, All-contains, Contains-append_left, Contains-append_right, Contains-append_cases}
 use Rattle.std.proofs.lemmas.List.Kept.{AllPairs-cons}
 use Rattle.ntfe_model.proofs.Lists.{Contains-from_map, pairs_first, pairs_across}
@@ -169,25 +170,21 @@ search_before {X} key row numbers low high middle e falling b least less below =
 pub same_at : {X : Type 0} (key : X → List ℕ) (row : List X) (numbers : List ℕ) (i : ℕ) (e d : X) → i < length row → key (get_or row i e) ≡ numbers → key (get_or row i d) ≡ numbers
 same_at key row numbers i e d inside h = ap key (get_or_default row i d e inside) ∙ h
 
--- ---- after an insert in code: `seen` is the row as it was searched, `numbers` the numbers that were looked for
+-- ---- after an insert in code: `numbers` are those that were looked for
 
-pub inserted_falls : {X : Type 0} (key : X → List ℕ) (row seen new : List X) (numbers : List ℕ) (i : ℕ) (y : X) → seen ≡ row → numbers ≡ key y → IsFalling key row
-    → IsPlaceFor key seen numbers i → new ≡ insert row i y → IsFalling key new
-inserted_falls {X} key row seen new numbers i y e f falling p g =
-    let P : List X → Type 0 = λ xs. IsPlaceFor key xs numbers i in
+pub inserted_falls : {X : Type 0} (key : X → List ℕ) (row new : List X) (numbers : List ℕ) (i : ℕ) (y : X) → numbers ≡ key y → IsFalling key row
+    → IsPlaceFor key row numbers i → new ≡ insert row i y → IsFalling key new
+inserted_falls {X} key row new numbers i y f falling p g =
     let Q : List ℕ → Type 0 = λ ns. IsPlaceFor key row ns i in
-    subst (IsFalling key) (sym g) (falling_insert key row i y falling (subst Q f (subst P e p)))
+    subst (IsFalling key) (sym g) (falling_insert key row i y falling (subst Q f p))
 
 pub inserted_has : {X : Type 0} (row new : List X) (i : ℕ) (y x : X) → new ≡ insert row i y → (Contains new x) ↔ ((x ≡ y) ⊎ Contains row x)
 inserted_has {X} row new i y x g =
     let P : List X → Type 0 = λ xs. (Contains xs x) ↔ ((x ≡ y) ⊎ Contains row x) in
     subst P (sym g) (has_insert row i y x)
 
-pub found_in : {X : Type 0} (key : X → List ℕ) (row seen : List X) (numbers : List ℕ) (i : ℕ) (d : X) → seen ≡ row → IsFoundAt key seen numbers i
-    → (x : X) × Contains row x × (key x ≡ numbers)
-found_in {X} key row seen numbers i d e p =
-    let P : List X → Type 0 = λ xs. (x : X) × Contains xs x × (key x ≡ numbers) in
-    subst P e (get_or seen i d, Contains-get_or seen i d p.0, p.1 d)
+pub found_in : {X : Type 0} (key : X → List ℕ) (row : List X) (numbers : List ℕ) (i : ℕ) (d : X) → IsFoundAt key row numbers i → (x : X) × Contains row x × (key x ≡ numbers)
+found_in {X} key row numbers i d p = (get_or row i d, Contains-get_or row i d p.0, p.1 d)
 
 -- ---- one thing more, by another name
 
@@ -198,6 +195,17 @@ pub has_other : {X : Type 0} {Y : X → Type 0} (row new : List X) (y : X) → (
     → (x : X) → (Contains new x) ↔ (Contains row x ⊎ Y x)
 has_other row new y has same x =
     (λ p. ⊎_elim (λ e. inr ((same x).1 e)) (λ q. inl q) ((has x).0 p), λ p. (has x).1 (⊎_elim (λ q. inr q) (λ q. inl ((same x).0 q)) p))
+
+-- ---- the back of a row whose length was read
+
+pub at_back : {X : Type 0} (row : List X) (n : ℕ) (x : X) → n ≡ length row → x ≡ get_or row (n - 1) x → x ≡ get_or row (length row - 1) x
+at_back row n x e h = h ∙ ap (λ m. get_or row (m - 1) x) e
+
+-- a row whose length was tested against 0
+pub empty_row : {X : Type 0} (row : List X) (n : ℕ) (b : Bool) → n ≡ length row → b ≡ nat_eq n 0 → b ≡ true → row ≡ []
+empty_row row n b e f t =
+    let h : n ≡ 0 = grind (arith, nat_tests) in
+    nil_from_length row (omega arith)
 
 -- ---- numbers that belong at a place are not in the row
 

@@ -12,7 +12,7 @@ use Rattle.ntfe_model.proofs.Listings.{Contains-here, Contains-cases, Contains-n
 use Rattle.ntfe_model.proofs.Orders.{below_chain}
 use Rattle.choice_board.specs.Places.{Place, under, IsIn}
 use Rattle.choice_board.specs.States.{State, Holder, waits, told, blocks, ends, IsHolder, place_of, place_of_record, place_of_stop, IsTrueRecord, IsSound}
-use Rattle.choice_board.specs.Telling.{IsNext, IsBlocked, IsTaken}
+use Rattle.choice_board.specs.Telling.{IsNext, IsBlocked, IsTaken, AreAllBlocked}
 use Rattle.choice_board.specs.declared.record.Record.{Record}
 use Rattle.choice_board.specs.declared.record.Found.{Found}
 use Rattle.choice_board.specs.declared.record.Found.TheVariants.{Class, Wide, Far}
@@ -212,3 +212,14 @@ stop_sound s rest r x sound running e place = record {
 
         comes : (h : Holder) → Contains (ends x ∷ []) h → IsHolder (after_stop s rest x) h
         comes h p = subst (IsHolder (after_stop s rest x)) (sym (the_one (ends x) h p)) refl
+
+-- ---- where nothing is open or recorded, and nothing ended the listing
+
+pub all_blocked : (s : State) → IsSound s → s.open_keys ≡ [] → s.recorded ≡ [] → s.stop ≡ None → AreAllBlocked s
+all_blocked s sound closed told_all running some choice is above = by (sound.held some choice is above)
+  where
+    by : (h : Holder) × IsHolder s h × IsIn (length s.geometry.faces) (place_of h) choice → IsBlocked s choice
+    by (waits k, has, p) = Contains-none k (subst (λ (ks : List (List ℕ)). Contains ks k) closed has)
+    by (told r, has, p) = Contains-none r (subst (λ (rs : List Record). Contains rs r) told_all has)
+    by (blocks b, has, p) = (b, has, p.1)
+    by (ends x, has, p) = absurd (let e : None ≡ Some x = sym running ∙ has in cc)

@@ -1,5 +1,5 @@
 -- What settling a key does to a board.
-use Rattle.std.specs.Prelude.{◌≡◌, ◌≢◌, ℕ, ◌+◌, ◌^◌, ◌⊎◌, ◌↔◌, nat_lt, cond, List, ◌++◌, Some, Contains}
+use Rattle.std.specs.Prelude.{◌≡◌, ◌≢◌, ℕ, ◌+◌, ◌^◌, ◌⊎◌, ◌↔◌, nat_lt, cond, Bool, true, false, List, ◌++◌, Some, Contains}
 use Rattle.choice_board.specs.Verdicts.{opened_by, recorded_by, pruned_by}
 use Rattle.choice_board.specs.States.{State}
 use Rattle.choice_board.specs.declared.record.Record.{Record}
@@ -39,7 +39,16 @@ pub record IsSettled (s t : State) (key : List ℕ) (v : Verdict) : Type 0 where
   pub stop : t.stop ≡ s.stop
   pub closed : t.closed ≡ s.closed
 
--- a verdict on a key that is not open is counted; else the key is closed with it
+-- a verdict on a key that is not open is counted, and nothing else changes
+abbrev pub IsStale : State → State → List ℕ → Type 0
+IsStale s t key = ¬ (Contains s.open_keys key) × (t ≡ record s { totals = totals_stale s.totals })
+
+-- whether the key was open: it is closed with the verdict then
+abbrev pub IsKeySettled : State → State → List ℕ → Verdict → Bool → Type 0
+IsKeySettled s t key v true = Contains s.open_keys key × IsSettled s t key v
+IsKeySettled s t key v false = IsStale s t key
+
+-- the same, with the keys that were opened
 abbrev pub IsSettledAs : State → State → List ℕ → Verdict → Settled → Type 0
-IsSettledAs s t key v Stale = ¬ (Contains s.open_keys key) × (t ≡ record s { totals = totals_stale s.totals })
+IsSettledAs s t key v Stale = IsStale s t key
 IsSettledAs s t key v (Taken opened) = Contains s.open_keys key × IsSettled s t key v × (opened ≡ opened_by key v)

@@ -1,15 +1,16 @@
 //! The board: open keys, recorded outcomes and pruned keys of one geometry.
-use crate::changes::{insert_new, make_room, put};
+use crate::changes::{Near, insert_new, make_room, put};
 use crate::opening::{choice_from, made_of, new_key};
 use crate::order::comes_first;
 use crate::outcome::{Outcome, outcome_of};
 use crate::record::{Record, Stop};
-use crate::rows::{Keyed, find};
+use crate::rows::{Keyed, find, remove_at};
 use crate::start::start_keys;
 use crate::totals::Totals;
 use crate::verdict::{Settled, Verdict};
 use ntfe_model::{Choice, Geometry, Key, List, Nogood};
 use std::alloc::{AllocError, Global};
+use std::collections::VecDeque;
 use std::marker::Model;
 
 /// What is known of the choices of a geometry above a start, while they are listed. Each choice
@@ -20,12 +21,14 @@ pub struct Board {
     geometry: Geometry,
     alloc: Global,
     last: Option<Choice>,
-    keys: Vec<Key>,
-    recorded: Vec<Record>,
+    keys: VecDeque<Key>,
+    recorded: VecDeque<Record>,
     pruned: Vec<(Key, Nogood)>,
     stop: Option<Stop>,
     closed: bool,
     totals: Totals,
+    /// Where searches begin. No answer depends on it.
+    near: Near,
 }
 
 impl Model for Board {
@@ -42,11 +45,12 @@ impl Model for Board {
 }
 
 impl Board {
-    ghost use Rattle.std.specs.Prelude.{◌≡◌, ◌↔◌, ◌⊎◌, ◌<◌, ℕ, List, length, slice_index_or, true, false, [], None, Some, IfOk, IsTrue, MatchBool, MatchOption, OnErr, OnOk};
+    ghost use Rattle.std.specs.Prelude.{◌≡◌, ◌↔◌, ◌⊎◌, ◌<◌, ℕ, List, length, slice_index_or, true, false, [], None, Some, Contains, IfOk, IsTrue, MatchBool, MatchOption, OnErr, OnOk};
     ghost use Rattle.ntfe_model.specs.Keys.{IsStart};
     ghost use Rattle.choice_board.specs.Starts.{new_board};
     ghost use Rattle.choice_board.specs.States.{IsSound};
-    ghost use Rattle.choice_board.specs.Settling.{IsSettled, IsSettledAs};
+    ghost use Rattle.choice_board.specs.Settling.{IsKeySettled, IsSettled, IsSettledAs};
+    ghost use Rattle.choice_board.specs.Rows.{IsFoundAt};
     ghost use Rattle.choice_board.specs.Telling.{AreAllBlocked, HasNext, IsHandedOut, IsLeastOpen, IsLeastSettled, IsWaiting};
     ghost use Rattle.choice_board.specs.Verdicts.{IsTrueOf};
 
@@ -69,8 +73,8 @@ impl Board {
             geometry,
             alloc,
             last: after,
-            keys,
-            recorded: Vec::new(alloc),
+            keys: VecDeque::from_vec(keys),
+            recorded: VecDeque::new(alloc),
             pruned: Vec::new(alloc),
             stop: None,
             closed: false,
@@ -81,6 +85,7 @@ impl Board {
                 pruned: 0,
                 written: 0,
             },
+            near: Near { key: 0, outcome: 0 },
         })
     }
 
@@ -100,7 +105,7 @@ impl Board {
         if self.closed {
             return None;
         }
-        self.keys.last()
+        self.keys.back()
     }
 
     /// From now on no open key is given out.
@@ -138,13 +143,38 @@ impl Board {
         ensures error { OnErr result (self.new ≡ self.old) }
         ensures sound { IsSound self.new }
     {
-        let Ok(place) = find(self.keys.as_slice(), key.numbers()) else {
+        let Some(place) = self.place_of(key) else {
             self.totals = self.totals.with_stale();
             return Ok(Settled::Stale);
         };
         let opened = verdict.opened(self.alloc, key)?;
         self.close_at(place, verdict)?;
         Ok(Settled::Taken { opened })
+    }
+
+    /// Does what [`settle`](Board::settle) does, and makes no list of the keys that it opens: whether the key was open.
+    ///
+    /// # Errors
+    /// `AllocError` where memory is short. The board is as it was.
+    pub fn settle_key(&mut self, key: &Key, verdict: Verdict) -> Result<bool, AllocError>
+        requires { IsTrueOf self.old.geometry key.now verdict }
+        ensures answer { IfOk result (λ a. IsKeySettled self.old self.new key.now verdict a) }
+        ensures error { OnErr result (self.new ≡ self.old) }
+        ensures sound { IsSound self.new }
+    {
+        let Some(place) = self.place_of(key) else {
+            self.totals = self.totals.with_stale();
+            return Ok(false);
+        };
+        self.close_at(place, verdict)?;
+        Ok(true)
+    }
+
+    /// The place of the key among the open keys, if it is one.
+    fn place_of(&self, key: &Key) -> Option<usize>
+        ensures { MatchOption result (¬ (Contains self.now.open_keys key.now)) (λ i. IsFoundAt (λ k. k) self.now.open_keys key.now i) }
+    {
+        find(&self.keys, key.numbers(), self.near.key).ok()
     }
 
     /// Closes the least open key with the verdict, as [`settle`](Board::settle) does. False where no
@@ -180,14 +210,15 @@ impl Board {
         let totals = self.totals.with_taken(&verdict);
         let made = made_of(self.alloc, key, verdict)?;
         make_room(&mut self.keys, &mut self.recorded, &mut self.pruned)?;
-        let own = self.keys.remove(place);
-        insert_new(&mut self.keys, new);
+        let own = remove_at(&mut self.keys, place);
+        insert_new(&mut self.keys, new, &mut self.near.key);
         put(
             &mut self.keys,
             &mut self.recorded,
             &mut self.pruned,
             own,
             made,
+            &mut self.near,
         );
         self.totals = totals;
         Ok(())
@@ -201,10 +232,10 @@ impl Board {
         ensures answer { MatchOption result ((self.new ≡ self.old) × IsWaiting self.old) (λ o. IsHandedOut self.old self.new o) }
         ensures sound { IsSound self.new }
     {
-        if self.stop.is_some() || !comes_first(self.recorded.as_slice(), self.keys.as_slice()) {
+        if self.stop.is_some() || !comes_first(&self.recorded, &self.keys) {
             return None;
         }
-        let Record { key, found } = self.recorded.pop()?;
+        let Record { key, found } = self.recorded.pop_back()?;
         let outcome = outcome_of(&key, found);
         match &outcome {
             Outcome::Class(..) => {
@@ -231,7 +262,7 @@ impl Board {
         if self.stop.is_some() {
             return false;
         }
-        comes_first(self.recorded.as_slice(), self.keys.as_slice())
+        comes_first(&self.recorded, &self.keys)
     }
 
     /// The class last handed out; before the first, where the list begins. Takes no memory.

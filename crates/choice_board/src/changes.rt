@@ -1,5 +1,6 @@
 //! Changes of the board's rows that can't fail, once there is room.
 ghost use Rattle.std.specs.Prelude.{◌≡◌, ◌≢◌, ◌+◌, ◌-◌, ◌^◌, ◌<◌, ◌≤◌, ◌⊎◌, ◌↔◌, ◌++◌, ℕ, List, length, Some, Contains, OnOk, vec_len, vec_capacity};
+ghost use Rattle.std.specs.VecDeque.{deque_len, deque_capacity};
 ghost use Rattle.ntfe_model.specs.Keys.{last_number};
 ghost use Rattle.choice_board.specs.Making.{key_made, record_made, pruned_made};
 ghost use Rattle.choice_board.specs.Rows.{IsFalling};
@@ -10,21 +11,29 @@ use crate::record::Record;
 use crate::rows::{insert_key, insert_record};
 use ntfe_model::{Key, Nogood};
 use std::alloc::AllocError;
+use std::collections::VecDeque;
+
+/// Where a key and an outcome were put last: the next ones mostly belong beside them.
+#[derive(Clone, Copy, Drop)]
+pub struct Near {
+    pub key: usize,
+    pub outcome: usize,
+}
 
 /// Makes room for one more entry in each row. All entries stay.
 ///
 /// # Errors
 /// `AllocError` where memory is short.
 pub fn make_room(
-    keys: &mut Vec<Key>,
-    recorded: &mut Vec<Record>,
+    keys: &mut VecDeque<Key>,
+    recorded: &mut VecDeque<Record>,
     pruned: &mut Vec<(Key, Nogood)>,
 ) -> Result<(), AllocError>
     ensures keys { keys.new.items ≡ keys.old.items }
     ensures recorded { recorded.new.items ≡ recorded.old.items }
     ensures pruned { pruned.new.items ≡ pruned.old.items }
-    ensures keys_room { OnOk result (vec_len keys.new < vec_capacity keys.new) }
-    ensures recorded_room { OnOk result (vec_len recorded.new < vec_capacity recorded.new) }
+    ensures keys_room { OnOk result (deque_len keys.new < deque_capacity keys.new) }
+    ensures recorded_room { OnOk result (deque_len recorded.new < deque_capacity recorded.new) }
     ensures pruned_room { OnOk result (vec_len pruned.new < vec_capacity pruned.new) }
 {
     keys.reserve(1)?;
@@ -34,34 +43,35 @@ pub fn make_room(
 }
 
 /// Puts the key, if there is one, into the row, which has room.
-pub fn insert_new(row: &mut Vec<Key>, new: Option<Key>)
+pub fn insert_new(row: &mut VecDeque<Key>, new: Option<Key>, near: &mut usize)
     requires falling { IsFalling (λ k. k) row.old.items }
-    requires room { vec_len row.old < vec_capacity row.old }
+    requires room { deque_len row.old < deque_capacity row.old }
     ensures falling { IsFalling (λ k. k) row.new.items }
     ensures items { (k : List ℕ) → Contains row.new.items k ↔ (Contains row.old.items k ⊎ (new ≡ Some k)) }
-    ensures len { vec_len row.new ≤ vec_len row.old + 1 }
-    ensures capacity { vec_capacity row.old ≤ vec_capacity row.new }
+    ensures len { deque_len row.new ≤ deque_len row.old + 1 }
+    ensures capacity { deque_capacity row.old ≤ deque_capacity row.new }
 {
     if let Some(key) = new {
-        insert_key(row, key);
+        insert_key(row, key, near);
     }
 }
 
 /// Puts the key where it belongs by what becomes of it. Each row has room, and no recorded outcome
 /// has the key.
 pub fn put(
-    keys: &mut Vec<Key>,
-    recorded: &mut Vec<Record>,
+    keys: &mut VecDeque<Key>,
+    recorded: &mut VecDeque<Record>,
     pruned: &mut Vec<(Key, Nogood)>,
     key: Key,
     made: Made,
+    near: &mut Near,
 )
     requires some { 1 ≤ length key }
     requires small { last_number key < 2 ^ 32 - 1 }
     requires keys_falling { IsFalling (λ k. k) keys.old.items }
-    requires keys_room { vec_len keys.old < vec_capacity keys.old }
+    requires keys_room { deque_len keys.old < deque_capacity keys.old }
     requires falling { IsFalling (λ r. r.key) recorded.old.items }
-    requires recorded_room { vec_len recorded.old < vec_capacity recorded.old }
+    requires recorded_room { deque_len recorded.old < deque_capacity recorded.old }
     requires pruned_room { vec_len pruned.old < vec_capacity pruned.old }
     requires fresh { (r : Record) → Contains recorded.old.items r → r.key ≢ key }
     ensures keys_falling { IsFalling (λ k. k) keys.new.items }
@@ -72,8 +82,8 @@ pub fn put(
 {
     match made {
         Made::Nothing => (),
-        Made::Raised => insert_key(keys, raise(key)),
-        Made::Told(found) => insert_record(recorded, Record { key, found }),
+        Made::Raised => insert_key(keys, raise(key), &mut near.key),
+        Made::Told(found) => insert_record(recorded, Record { key, found }, &mut near.outcome),
         Made::Blocked(nogood) => pruned.push_reserved((key, nogood)),
     }
 }

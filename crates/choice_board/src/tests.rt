@@ -12,6 +12,7 @@ use crate::totals::Totals;
 use crate::verdict::Verdict;
 use ntfe_model::{Key, List};
 use std::alloc::{AllocError, Global};
+use std::collections::VecDeque;
 
 fn key(alloc: Global, numbers: &[u32]) -> Result<Key, AllocError>
     ensures { IfOk result (λ k. k ≡ numbers.now) }
@@ -55,9 +56,10 @@ fn no_total_passes_its_most(rt: HostRuntime) {
 #[test]
 fn keys_stand_from_the_greatest_down(rt: HostRuntime) -> Result<(), AllocError> {
     let alloc = rt.alloc();
-    let mut row = Vec::with_capacity(alloc, 2)?;
-    insert_new(&mut row, Some(key(alloc, &[0, 7])?));
-    insert_new(&mut row, Some(key(alloc, &[1])?));
+    let mut row = VecDeque::with_capacity(alloc, 2)?;
+    let mut near = 0;
+    insert_new(&mut row, Some(key(alloc, &[0, 7])?), &mut near);
+    insert_new(&mut row, Some(key(alloc, &[1])?), &mut near);
     assert!(rt; row.len() == 2 && row[0].numbers() == [1].as_slice());
     Ok(())
 }
@@ -75,16 +77,22 @@ fn a_key_is_gone_into(rt: HostRuntime) -> Result<(), AllocError> {
 fn a_key_that_is_gone_into_stays_raised(rt: HostRuntime) -> Result<(), AllocError> {
     let alloc = rt.alloc();
     let inner = key(alloc, &[5, 2])?;
-    let mut row = Vec::with_capacity(alloc, 2)?;
-    insert_new(&mut row, new_key(alloc, &inner, &Verdict::Descend)?);
-    insert_new(&mut row, Some(raise(inner)));
+    let mut row = VecDeque::with_capacity(alloc, 2)?;
+    let mut near = 0;
+    insert_new(
+        &mut row,
+        new_key(alloc, &inner, &Verdict::Descend)?,
+        &mut near,
+    );
+    insert_new(&mut row, Some(raise(inner)), &mut near);
     assert!(rt; row.len() == 2 && row[0].numbers() == [5, 3].as_slice());
     Ok(())
 }
 
 #[test]
 fn nothing_has_its_turn(rt: HostRuntime) {
-    assert!(rt; !comes_first(&[], &[]));
+    let alloc = rt.alloc();
+    assert!(rt; !comes_first(&VecDeque::new(alloc), &VecDeque::new(alloc)));
 }
 
 #[test]

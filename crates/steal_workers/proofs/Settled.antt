@@ -9,9 +9,7 @@ use Rattle.ntfe_model.proofs.Listings.{Contains-cases, Contains-none, All-from_c
 use Rattle.choice_board.specs.Places.{raised, first_under}
 use Rattle.choice_board.specs.Verdicts.{opened_by}
 use Rattle.choice_board.specs.States.{State, IsSound}
-use Rattle.choice_board.specs.Settling.{IsSettled, IsSettledAs}
-use Rattle.choice_board.specs.declared.verdict.Settled.{Settled}
-use Rattle.choice_board.specs.declared.verdict.Settled.TheVariants.{Stale, Taken}
+use Rattle.choice_board.specs.Settling.{IsSettled, IsKeySettled}
 use Rattle.choice_board.specs.Telling.{IsLeastOpen, IsLeastSettled}
 use Rattle.choice_board.specs.declared.verdict.Verdict.{Verdict}
 use Rattle.choice_board.specs.declared.verdict.Verdict.TheVariants.{End, Pruned, Class, Wide, Far, Descend}
@@ -82,9 +80,9 @@ least_rises s t key v sound later least z = chain (least_most n s.open_keys key 
         (⊎_elim (λ old. ⊎_elim (λ e. absurd (old.1 e)) (λ b. b) (All-contains (λ i. (i ≡ key) ⊎ IsBelow key i) s.open_keys j least.1 old.0)) (λ new. above_settled key v is_key.some j new) ((z.open_keys j).0 c))
 
 -- a listing stays under way, whether the verdict came in time or too late
-pub stays_under_way : (g : Shape) (width : ℕ) (s t : State) (key : List ℕ) (v : Verdict) (a : Settled) → IsSound s → IsProbed g width key v → IsSettledAs s t key v a → StaysUnderWay g width s t
-stays_under_way g width s t key v Stale sound probed z l same wide u = subst (IsUnderWay l) (sym z.1) record { geometry = u.geometry; keys = u.keys; records = u.records }
-stays_under_way g width s t key v (Taken opened) sound probed z l same wide u =
+pub stays_under_way : (g : Shape) (width : ℕ) (s t : State) (key : List ℕ) (v : Verdict) (a : Bool) → IsSound s → IsProbed g width key v → IsKeySettled s t key v a → StaysUnderWay g width s t
+stays_under_way g width s t key v false sound probed z l same wide u = subst (IsUnderWay l) (sym z.1) record { geometry = u.geometry; keys = u.keys; records = u.records }
+stays_under_way g width s t key v true sound probed z l same wide u =
     under_way_settled l s t key v sound u z.0 (subst (λ (x : Shape × ℕ). IsProbed x.0 x.1 key v) (λ i. (sym same i, sym wide i)) probed) z.1
 
 -- ---- the least open key is settled
@@ -96,7 +94,7 @@ settled_least s t v false sound later given (none, same) = (same, ⊎_elim (λ e
 -- a listing stays under way when the least key was probed and settled
 pub least_under_way : (g : Shape) (width : ℕ) (s t : State) (key : List ℕ) (v : Verdict) (b : Bool) → IsSound s → IsLeastOpen s key → IsProbed g width key v → IsLeastSettled s t v b → StaysUnderWay g width s t
 least_under_way g width s t key v true sound least probed (_, (k, first, z)) l own wide u =
-    stays_under_way g width s t k v (Taken (opened_by k v)) sound (subst (λ (j : List ℕ). IsProbed g width j v) (least_only s key k least first) probed) (first.0, z, refl) l own wide u
+    stays_under_way g width s t k v true sound (subst (λ (j : List ℕ). IsProbed g width j v) (least_only s key k least first) probed) (first.0, z) l own wide u
 least_under_way g width s t key v false sound least probed (_, same) l own wide u = subst (IsUnderWay l) (sym same) u
 
 -- what is left of a listing falls with each settled key

@@ -1,17 +1,15 @@
 -- The board that workers share stays one, whatever is settled on it or handed out.
-use Rattle.std.proofs.Common.{◌≡◌, ◌≢◌, refl, sym, ap, ◌∙◌, subst, ℕ, ◌+◌, ◌-◌, ◌^◌, min, List, [], ◌∷◌, true, nat_eq, arith}
-use Rattle.std.specs.Prelude.{Option}
+use Rattle.std.proofs.Common.{◌≡◌, ◌≢◌, refl, sym, ap, ◌∙◌, subst, ℕ, ◌+◌, ◌-◌, ◌^◌, min, List, [], ◌∷◌, Bool, true, false, nat_eq, arith}
+use Rattle.std.specs.Prelude.{Option, Contains}
 use Rattle.std.proofs.lemmas.Bool.Decides.{nat_tests}
 use Rattle.ntfe_model.specs.Shapes.{Shape}
 use Rattle.choice_board.specs.States.{State, IsSound}
 use Rattle.choice_board.specs.Starts.{new_board}
-use Rattle.choice_board.specs.Settling.{IsSettledAs, totals_taken, counted}
+use Rattle.choice_board.specs.Settling.{IsSettled, IsKeySettled, IsStale, totals_taken, counted}
 use Rattle.choice_board.specs.Telling.{IsHandedOut}
 use Rattle.choice_board.specs.declared.totals.Totals.{Totals}
 use Rattle.choice_board.specs.declared.outcome.Outcome.{Outcome}
 use Rattle.choice_board.specs.declared.outcome.Outcome.TheVariants.{Class, Wide, Far}
-use Rattle.choice_board.specs.declared.verdict.Settled.{Settled}
-use Rattle.choice_board.specs.declared.verdict.Settled.TheVariants.{Stale, Taken}
 use Rattle.choice_board.specs.declared.verdict.Verdict.{Verdict}
 use Rattle.choice_board.specs.declared.verdict.Verdict.TheVariants as verdict
 use Rattle.steal_workers.specs.Listings.{Listed, NoneIsLeft}
@@ -99,25 +97,23 @@ taken_settled c verdict.Far = refl
 taken_settled c verdict.Descend = refl
 
 module _ (s : Shared) (t : State) (key : List ℕ) (v : Verdict) (shared : IsShared s) (sound : IsSound t) (is : IsVerdictOn s.board.geometry s.width key v) where
-  settled_geometry : (a : Settled) → IsSettledAs s.board t key v a → t.geometry ≡ s.board.geometry
-  settled_geometry Stale h = ap (λ (b : State). b.geometry) h.1
-  settled_geometry (Taken opened) h = h.1.geometry
-
-  still_under_way : (a : Settled) → IsSettledAs s.board t key v a → (l : Listed) → IsListedOn (record s { board = t }) l → IsUnderWay l t
-  still_under_way a h l on =
-      let own : l.geometry ≡ s.board.geometry = on.geometry ∙ settled_geometry a h in
+  still_under_way : (a : Bool) → IsKeySettled s.board t key v a → t.geometry ≡ s.board.geometry → (l : Listed) → IsListedOn (record s { board = t }) l → IsUnderWay l t
+  still_under_way a h same l on =
+      let own : l.geometry ≡ s.board.geometry = on.geometry ∙ same in
       stays_under_way s.board.geometry s.width s.board t key v a shared.sound is.1 h l own on.width (shared.under_way l record { geometry = own; start = on.start; width = on.width })
 
   -- a verdict that came too late changes nothing of it
-  pub stale_shared : (a : Settled) → a ≡ Stale → IsSettledAs s.board t key v a → IsShared (record s { board = t })
-  stale_shared Stale e h = record { sound = sound; under_way = still_under_way Stale h; tied = ap (λ (b : State). b.totals.settled) h.1 ∙ shared.tied }
-  stale_shared (Taken opened) e h = absurd (let x : Taken opened ≡ Stale = e in cc)
+  pub stale_shared : IsStale s.board t key → IsShared (record s { board = t })
+  stale_shared h = record {
+    sound = sound;
+    under_way = still_under_way false h (ap (λ (b : State). b.geometry) h.1);
+    tied = ap (λ (b : State). b.totals.settled) h.1 ∙ shared.tied;
+  }
 
   -- a key that was closed is booked
-  pub taken_shared : (a : Settled) → a ≢ Stale → IsSettledAs s.board t key v a → (total : ℕ) → total ≡ s.booked + 1 → IsShared (record s { board = t; booked = total })
-  taken_shared Stale e h total one = absurd (e refl)
-  taken_shared (Taken opened) e h total one = record {
+  pub taken_shared : Contains s.board.open_keys key × IsSettled s.board t key v → (total : ℕ) → total ≡ s.booked + 1 → IsShared (record s { board = t; booked = total })
+  taken_shared h total one = record {
     sound = sound;
-    under_way = λ l on. still_under_way (Taken opened) h l record { geometry = on.geometry; start = on.start; width = on.width };
+    under_way = λ l on. still_under_way true h h.1.geometry l record { geometry = on.geometry; start = on.start; width = on.width };
     tied = ap (λ (c : Totals). c.settled) h.1.totals ∙ taken_settled s.board.totals v ∙ counted_more s.board.totals.settled s.booked shared.tied ∙ ap (λ n. min (2 ^ 63) n) (sym one);
   }

@@ -12,7 +12,7 @@ use crate::listing::Listing;
 use crate::look::Look;
 use crate::row::Row;
 use crate::tally::Tally;
-use choice_board::{Board, Settled, Verdict};
+use choice_board::{Board, Verdict};
 use ntfe_model::{Choice, Geometry, Key};
 use std::alloc::{AllocError, Global};
 use std::cmp::Ordering;
@@ -246,7 +246,7 @@ impl<L: Ledger> SharedBoard<L> {
         ensures listing { IsSameListing self.old self.new }
         ensures tally { IsSameTally mine.old mine.new }
     {
-        if let Settled::Stale = self.board.settle(key, verdict)? {
+        if !self.board.settle_key(key, verdict)? {
             return Ok(false);
         }
         mine.book(&mut self.book);

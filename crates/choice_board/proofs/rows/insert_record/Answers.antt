@@ -4,12 +4,12 @@ use Rattle.choice_board.proofs.rows.insert_record.Goals as goal
 
 pub unreachable-requires : goal.unreachable-requires
 unreachable-requires c =
-    let r = found_in (λ x. x.key) c.args.row.now.items c.as_slice.result.now c.numbers.result.now c.in-Ok.field-0 c.args.told c.as_slice.ensures.value c.in-Ok.ensures in
+    let r = found_in (λ x. x.key) c.args.row.now.items c.numbers.result.now c.in-Ok.field-0 c.args.told c.in-Ok.ensures in
     absurd (c.requires.fresh r.0 r.1 (r.2 ∙ c.numbers.ensures))
 
 pub returns-clause-falling : goal.returns-clause-falling
 returns-clause-falling c =
-    inserted_falls (λ x. x.key) c.args.row.now.items c.as_slice.result.now c.insert_at.new.row.items c.numbers.result.now c.in-Err.place c.args.told c.as_slice.ensures.value c.numbers.ensures
+    inserted_falls (λ x. x.key) c.args.row.now.items c.insert_at.new.row.items c.numbers.result.now c.in-Err.place c.args.told c.numbers.ensures
     c.requires.falling c.in-Err.ensures c.insert_at.ensures.items
 
 pub returns-clause-items : goal.returns-clause-items

@@ -13,7 +13,7 @@ insert_new-requires-clause-falling c =
     let s = state_of c.self.inside.geometry c.self.inside.last c.self.inside.keys.items c.self.inside.recorded.items c.self.inside.pruned.items c.self.inside.stop c.self.inside.closed c.self.inside.totals in
     let inside = subst (λ (t : State). c.args.place < length t.open_keys) (sym c.self.view_is) c.requires.place in
     let p = found_there c.self.inside.keys.items c.index-key.result.now c.args.place inside c.index-key.ensures in
-    removed_falls s c.make_room.new.keys.items c.remove-own.new.self.items c.index-key.result.now c.args.place c.self.invariant p c.in_ok-make_room.ensures.keys c.remove-own.ensures.items
+    removed_falls s c.make_room.new.keys.items c.remove_at-own.new.row.items c.index-key.result.now c.args.place c.self.invariant p c.in_ok-make_room.ensures.keys c.remove_at-own.ensures.items
 
 pub put-requires-clause-fresh : goal.put-requires-clause-fresh
 put-requires-clause-fresh c =
@@ -21,8 +21,8 @@ put-requires-clause-fresh c =
     let inside = subst (λ (t : State). c.args.place < length t.open_keys) (sym c.self.view_is) c.requires.place in
     let key = c.index-key.result.now in
     let p = found_there c.self.inside.keys.items key c.args.place inside c.index-key.ensures in
-    let own = own_is_key c.self.inside.keys.items c.make_room.new.keys.items key c.remove-own.result c.args.place c.in_ok-make_room.ensures.keys p c.remove-own.ensures.value in
-    fresh_record s key c.remove-own.result c.make_room.new.recorded.items c.self.invariant (at_place c.self.inside.keys.items key c.args.place p) own c.in_ok-make_room.ensures.recorded
+    let own = own_is_key c.self.inside.keys.items c.make_room.new.keys.items key c.remove_at-own.result c.args.place c.in_ok-make_room.ensures.keys p c.remove_at-own.ensures.value in
+    fresh_record s key c.remove_at-own.result c.make_room.new.recorded.items c.self.invariant (at_place c.self.inside.keys.items key c.args.place p) own c.in_ok-make_room.ensures.recorded
 
 -- the board as it was
 abbrev was : goal.After-totals-1 → State
@@ -35,17 +35,17 @@ closed : (c : goal.After-totals-1) → IsClosed (was c) c.index-key.result.now c
 closed c =
     let key = c.index-key.result.now in
     let p = found_there c.self.inside.keys.items key c.args.place (is_inside c) c.index-key.ensures in
-    let own = own_is_key c.self.inside.keys.items c.make_room.new.keys.items key c.remove-own.result c.args.place c.in_ok-make_room.ensures.keys p c.remove-own.ensures.value in
-    let removed : c.remove-own.new.self.items ≡ remove c.self.inside.keys.items c.args.place = c.remove-own.ensures.items ∙ ap (λ xs. remove xs c.args.place) c.in_ok-make_room.ensures.keys in
+    let own = own_is_key c.self.inside.keys.items c.make_room.new.keys.items key c.remove_at-own.result c.args.place c.in_ok-make_room.ensures.keys p c.remove_at-own.ensures.value in
+    let removed : c.remove_at-own.new.row.items ≡ remove c.self.inside.keys.items c.args.place = c.remove_at-own.ensures.items ∙ ap (λ xs. remove xs c.args.place) c.in_ok-make_room.ensures.keys in
     record {
       found = p;
       falling = c.put.ensures.keys_falling;
-      has = has_through c.remove-own.new.self.items (remove c.self.inside.keys.items c.args.place) c.insert_new.new.row.items c.put.new.keys.items c.in_ok-new.new c.remove-own.result key c.args.verdict c.in_ok-made.made
+      has = has_through c.remove_at-own.new.row.items (remove c.self.inside.keys.items c.args.place) c.insert_new.new.row.items c.put.new.keys.items c.in_ok-new.new c.remove_at-own.result key c.args.verdict c.in_ok-made.made
           removed c.in_ok-new.ensures own c.in_ok-made.ensures.raised c.insert_new.ensures.items c.put.ensures.keys;
       records_falling = c.put.ensures.falling;
-      records_has = records_through c.make_room.new.recorded.items c.self.inside.recorded.items c.put.new.recorded.items c.remove-own.result key c.in_ok-made.made c.in_ok-make_room.ensures.recorded own c.put.ensures.recorded;
+      records_has = records_through c.make_room.new.recorded.items c.self.inside.recorded.items c.put.new.recorded.items c.remove_at-own.result key c.in_ok-made.made c.in_ok-make_room.ensures.recorded own c.put.ensures.recorded;
       recorded_made = c.in_ok-made.ensures.recorded;
-      pruned_is = c.put.ensures.pruned ∙ ap (λ xs. xs ++ pruned_made c.remove-own.result c.in_ok-made.made) c.in_ok-make_room.ensures.pruned
+      pruned_is = c.put.ensures.pruned ∙ ap (λ xs. xs ++ pruned_made c.remove_at-own.result c.in_ok-made.made) c.in_ok-make_room.ensures.pruned
           ∙ ap (λ k. c.self.inside.pruned.items ++ pruned_made k c.in_ok-made.made) own;
       pruned_made_is = c.in_ok-made.ensures.pruned;
       totals_are = c.with_taken-totals.ensures;

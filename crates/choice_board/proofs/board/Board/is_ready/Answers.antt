@@ -15,5 +15,5 @@ pub returns-clause-answer : goal.returns-clause-answer
 returns-clause-answer c =
     let s = state_of c.self.inside.geometry c.self.inside.last c.self.inside.keys.items c.self.inside.recorded.items c.self.inside.pruned.items c.self.inside.stop c.self.inside.closed c.self.inside.totals in
     subst (λ (x : State). MatchBool c.comes_first.result (HasNext x) (IsWaiting x)) c.self.view_is
-    (tells_ready s c.as_slice.result.now c.as_slice-2.result.now c.self.invariant c.as_slice.ensures.value c.as_slice-2.ensures.value (none_from_test s.stop c.is_some.result c.is_some.ensures c.if-is_some.false) c.comes_first.result
+    (tells_ready s c.self.invariant (none_from_test s.stop c.is_some.result c.is_some.ensures c.if-is_some.false) c.comes_first.result
     c.comes_first.ensures.when_true c.comes_first.ensures.when_false)
