@@ -65,7 +65,7 @@ pub fn signed(sign: i64, number: i64) -> i64
 }
 
 /// The number times one less the other times another, divided without a remainder: nothing where there is one, or where it
-/// reaches 2^30. In most places the line has 0, where a number that is 0 or is multiplied by the divisor stays.
+/// reaches 2^30. Most numbers stay, since nothing is taken from them, and they are 0 or multiplied by the divisor.
 #[inline]
 fn mixed(number: i64, other: i64, times: i64, factor: i64, divisor: &Divisor) -> Option<i64>
     requires number { unsigned_abs number < 2 ^ 30 }
@@ -76,7 +76,7 @@ fn mixed(number: i64, other: i64, times: i64, factor: i64, divisor: &Divisor) ->
     ensures value { IfSome result (λ z. divisor.now.number *ℤ z ≡ times *ℤ number -ℤ factor *ℤ other) }
     ensures small { IfSome result (λ z. unsigned_abs z < 2 ^ 30) }
 {
-    if other == 0 && (number == 0 || times == divisor.number) {
+    if product(factor, other) == 0 && (number == 0 || times == divisor.number) {
         return Some(number);
     }
     divisor.quotient(difference(times, number, factor, other))
