@@ -360,12 +360,12 @@ impl Stem {
         common_count(&self.folds, folds)
     }
 
-    /// The same as `common` tells, where the first so many rows are its own: these are not looked at.
+    /// The same as `common` tells, where the first so many rows are its own: these are not looked at, if it has as many.
     pub fn common_from(&self, folds: &[Fold], from: usize) -> usize
         ensures { result ≤ length folds.now }
     {
         if from > self.folds.len() || from > folds.len() {
-            return 0;
+            return common_count(&self.folds, folds);
         }
         from + common_count(&self.folds[from..], &folds[from..])
     }
