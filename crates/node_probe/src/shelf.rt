@@ -1,5 +1,5 @@
 //! What probes of a geometry's keys keep: the folds of its items, and heights.
-ghost use Rattle.std.specs.Prelude.{◌≡◌, ◌<◌, ◌≤◌, ◌^◌, true, [], length, All, IfOk, OnOk};
+ghost use Rattle.std.specs.Prelude.{◌≡◌, ◌<◌, ◌≤◌, ◌^◌, true, [], length, All, IfOk, OnOk, MatchBool};
 ghost use Rattle.ntfe_model.specs.Choices.{IsSmallFold};
 ghost use Rattle.ntfe_model.specs.Words.{IsItem};
 ghost use Rattle.ntfe_model.specs.Charts.{patch_at};
@@ -95,6 +95,30 @@ impl FaceShelf {
         }
     }
 
+    /// Adds the folds of an item of the two-face, which has this number in the geometry, where they are kept. The answer is
+    /// false, and nothing is added, where they are not.
+    pub fn add_kept_folds(
+        &self,
+        face: u32,
+        number: u32,
+        rows: &mut HeadRows,
+    ) -> Result<bool, AllocError>
+        ensures rows { IfOk result (λ b. MatchBool b (AddsItem self.now number face rows.old rows.new) (rows.new ≡ rows.old)) }
+    {
+        let place = (number % PLACE_COUNT) as usize;
+        if place >= self.kept.len() {
+            return Ok(false);
+        }
+        let Some(there) = &self.kept[place] else {
+            return Ok(false);
+        };
+        if there.number != number {
+            return Ok(false);
+        }
+        add_rows(rows, face, there.folds.as_slice())?;
+        Ok(true)
+    }
+
     /// Adds the folds of an item of the two-face, which has this number in the geometry.
     pub fn add_folds(
         &mut self,
@@ -115,7 +139,7 @@ impl FaceShelf {
     }
 }
 
-/// Adds the folds of an item that the book keeps.
+/// Adds the folds of an item that the book keeps. It is asked for the item only where no folds are kept.
 fn add_kept<B: Book>(
     alloc: Global,
     shelf: &mut FaceShelf,
@@ -131,6 +155,9 @@ fn add_kept<B: Book>(
     ensures patch { shelf.new ≡ shelf.old }
     ensures rows { OnOk result (AddsItem shelf.old number face rows.old rows.new) }
 {
+    if shelf.add_kept_folds(face, number, rows)? {
+        return Ok(());
+    }
     let item = book.kept(face, number).unwrap();
     shelf.add_folds(alloc, face, number, item, rows)
 }

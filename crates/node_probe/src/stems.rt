@@ -1,5 +1,5 @@
 //! The stems of a key: where the run ends on its first rows.
-ghost use Rattle.std.specs.Prelude.{◌≡◌, ◌+◌, ◌^◌, ◌<◌, ◌≤◌, take, length, slice_get, All, Some, IfOk};
+ghost use Rattle.std.specs.Prelude.{◌≡◌, ◌+◌, ◌^◌, ◌<◌, ◌≤◌, take, length, slice_get, All, Some, IfOk, IfSome};
 ghost use Rattle.std.specs.Bool.{OnTrue};
 ghost use Rattle.strict_solver.specs.Starts.{AreFoldsOver};
 ghost use Rattle.strict_solver.specs.Stems.{StemValue};
@@ -79,7 +79,41 @@ fn thin(stems: &mut Vec<Stem>, columns: u32, last: usize, faces: &[u32], count: 
     kept
 }
 
-/// The stem of the path that goes on with the rows, and how many of them it stands for.
+/// How many rows stand before those of the last of so many two-faces.
+fn rows_before(faces: &[u32], count: usize) -> usize {
+    for k in (0..faces.len()).rev() {
+        if (faces[k] as usize) < count.saturating_sub(1) {
+            return k + 1;
+        }
+    }
+    0
+}
+
+/// The stem of the path that goes on with the rows where so many are common with those of the key before, its place, and how many
+/// rows it stands for: none where other rows are common.
+fn begin_after(
+    stems: &mut Vec<Stem>,
+    columns: u32,
+    last: usize,
+    rows: &HeadRows,
+    count: usize,
+    common: usize,
+) -> (usize, Option<usize>)
+    requires columns { All (λ v. v.columns ≡ columns) stems.old.items }
+    requires within { last < length stems.old.items }
+    ensures count { length stems.new.items ≡ length stems.old.items }
+    ensures columns { All (λ v. v.columns ≡ columns) stems.new.items }
+    ensures level { result.0 ≤ last }
+    ensures rows { IfSome result.1 (λ n. n ≤ length rows.now.folds.items) }
+    ensures known { IfSome result.1 (λ n. HasGone stems.new.items result.0 rows.now.folds.items n Feasible) }
+{
+    let level = take_back(stems, columns, last, common);
+    let level = thin(stems, columns, level, &rows.faces, count);
+    (level, stems[level].stands_for(&rows.folds))
+}
+
+/// The stem of the path that goes on with the rows, and how many of them it stands for. Where keys come in their order, only rows of
+/// the last two-face differ from those of the key before: the others are not compared twice.
 fn begin(
     stems: &mut Vec<Stem>,
     columns: u32,
@@ -95,10 +129,14 @@ fn begin(
     ensures rows { IfOk result (λ r. r.1 ≤ length rows.now.folds.items) }
     ensures known { IfOk result (λ r. HasGone stems.new.items r.0 rows.now.folds.items r.1 Feasible) }
 {
-    let common = stems[last].common(&rows.folds);
-    let level = take_back(stems, columns, last, common);
-    let level = thin(stems, columns, level, &rows.faces, count);
-    if let Some(known) = stems[level].stands_for(&rows.folds) {
+    let likely = stems[last].common_from(&rows.folds, rows_before(&rows.faces, count));
+    let (level, known) = begin_after(stems, columns, last, rows, count, likely);
+    if let Some(known) = known {
+        return Ok((level, known));
+    }
+    let common = stems[level].common(&rows.folds);
+    let (level, known) = begin_after(stems, columns, level, rows, count, common);
+    if let Some(known) = known {
         return Ok((level, known));
     }
     stems[0].start()?;

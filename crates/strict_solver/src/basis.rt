@@ -1,5 +1,5 @@
 //! The rows of all heights over the variables that are not basic, with one denominator.
-ghost use Rattle.std.specs.Prelude.{◌≡◌, ◌≢◌, ℕ, ◌+◌, ◌-◌, ◌*◌, ◌^◌, ◌<◌, ◌≤◌, pos, ◌-ℤ◌, ◌*ℤ◌, ◌+ℤ◌, ◌<ℤ◌, unsigned_abs, length};
+ghost use Rattle.std.specs.Prelude.{◌≡◌, ◌≢◌, ℕ, ◌+◌, ◌-◌, ◌*◌, ◌^◌, ◌<◌, ◌≤◌, pos, ◌-ℤ◌, ◌*ℤ◌, ◌+ℤ◌, ◌<ℤ◌, unsigned_abs, length, IfSome};
 ghost use Rattle.std.specs.Bool.{OnTrue};
 ghost use Rattle.ntfe_nums.specs.Vectors.{sign as sign_of};
 ghost use Rattle.strict_solver.specs.Rows.{number, AreNarrow};
@@ -64,6 +64,24 @@ pub fn signed(sign: i64, number: i64) -> i64
     if sign < 0 { -number } else { number }
 }
 
+/// The number times one less the other times another, divided without a remainder: nothing where there is one, or where it
+/// reaches 2^30. Most numbers stay, since nothing is taken from them, and they are 0 or multiplied by the divisor.
+#[inline]
+fn mixed(number: i64, other: i64, times: i64, factor: i64, divisor: &Divisor) -> Option<i64>
+    requires number { unsigned_abs number < 2 ^ 30 }
+    requires other { unsigned_abs other < 2 ^ 30 }
+    requires times { unsigned_abs times < 2 ^ 30 }
+    requires factor { unsigned_abs factor < 2 ^ 30 }
+    requires divisor { unsigned_abs divisor.now.number < 2 ^ 30 }
+    ensures value { IfSome result (λ z. divisor.now.number *ℤ z ≡ times *ℤ number -ℤ factor *ℤ other) }
+    ensures small { IfSome result (λ z. unsigned_abs z < 2 ^ 30) }
+{
+    if product(factor, other) == 0 && (number == 0 || times == divisor.number) {
+        return Some(number);
+    }
+    divisor.quotient(difference(times, number, factor, other))
+}
+
 /// The row times a number less the line times another, divided without a remainder. The answer is false where there is one, or
 /// where a number reaches 2^30.
 fn mix(row: &mut [i64], line: &[i64], times: i64, factor: i64, divisor: &Divisor) -> bool
@@ -77,7 +95,7 @@ fn mix(row: &mut [i64], line: &[i64], times: i64, factor: i64, divisor: &Divisor
     ensures answer { OnTrue result (IsMixed divisor.now.number times factor row.old line.now row.new) }
 {
     for k in 0..row.len() {
-        let Some(number) = divisor.quotient(difference(times, row[k], factor, line[k])) else {
+        let Some(number) = mixed(row[k], line[k], times, factor, divisor) else {
             return false;
         };
         row[k] = number;

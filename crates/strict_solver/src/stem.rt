@@ -360,6 +360,16 @@ impl Stem {
         common_count(&self.folds, folds)
     }
 
+    /// The same as `common` tells, where the first so many rows are its own: these are not looked at, if it has as many.
+    pub fn common_from(&self, folds: &[Fold], from: usize) -> usize
+        ensures { result ≤ length folds.now }
+    {
+        if from > self.folds.len() || from > folds.len() {
+            return common_count(&self.folds, folds);
+        }
+        from + common_count(&self.folds[from..], &folds[from..])
+    }
+
     /// How many of the rows it stands for, where these are its rows as far as it has them.
     pub fn stands_for(&self, folds: &[Fold]) -> Option<usize>
         ensures within { IfSome result (λ n. n ≤ length folds.now) }

@@ -2,7 +2,6 @@ use Rattle.std.proofs.Common.{◌≡◌, ◌^◌, ◌<◌, ℤ, ◌-ℤ◌, ◌*
 use Rattle.strict_solver.specs.Rows.{number}
 use Rattle.strict_solver.specs.Mixing.{IsMixed}
 use Rattle.strict_solver.proofs.Rows.{set_next, set_rest}
-use Rattle.strict_solver.proofs.ShortRows.{word64}
 use Rattle.strict_solver.proofs.Words.{set_small, word30}
 use Rattle.strict_solver.proofs.PuttingIn.{mixed_all}
 use Rattle.strict_solver.proofs.basis.mix.Goals as goal
@@ -22,9 +21,7 @@ loop-k-preserved c =
     let is : to_z w64 (of_z w64 n) ≡ n = word30 n c.in-Some.ensures.small in
     let quotient : d *ℤ to_z w64 (of_z w64 n) ≡ to_z w64 (of_z w64 c.args.times) *ℤ number old k -ℤ to_z w64 (of_z w64 c.args.factor) *ℤ number line k =
     ap (λ z. d *ℤ z) is
-    ∙ c.in-Some.ensures.product
-    ∙ word64 c.difference.result (let a = c.difference.ensures.size in omega arith)
-    ∙ c.difference.ensures.value
+    ∙ c.in-Some.ensures.value
     ∙ (λ t. to_z w64 (of_z w64 c.args.times) *ℤ word30 (number row k) (i.small k) t -ℤ to_z w64 (of_z w64 c.args.factor) *ℤ word30 (number line k) (c.requires.line.each k) t)
     ∙ ap (λ z. times *ℤ z -ℤ factor *ℤ number line k) (i.above k (omega arith)) in
     record {
