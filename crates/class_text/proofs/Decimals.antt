@@ -9,12 +9,10 @@ use Rattle.std.proofs.Math.Nat.{pow-suc, pow-le-pow_right}
 use Rattle.std.proofs.lemmas.Bool.{and_parts, leb-true}
 use Rattle.std.proofs.lemmas.List.{take_all, length-drop}
 use Rattle.std.proofs.lemmas.Str.{digit_value_digit}
-use Rattle.std.proofs.lemmas.Str.Parse.{IsNumeralModel, numerals_by_value, tells_all_ascii_digits, digits_value_short}
+use Rattle.std.proofs.lemmas.Str.Parse.{digits_value_short}
 use Rattle.std.proofs.lemmas.Fmt.{digits_decimal, decimal_nonempty, first_decimal, length-decimal-le, decimal-digits_value, decimal_digit, decimal_injective}
 use Rattle.class_text.specs.Fields.{IsSize, IsHeight}
-
-pub own : IsNumeralModel (λ ds. all_ascii_digits ds ≡ true) (digits_value 10)
-own = numerals_by_value (λ ds. all_ascii_digits ds ≡ true) tells_all_ascii_digits
+use Rattle.pair_text.proofs.Canonical.{own}
 
 -- such a number has from one to 19 digits
 pub no_length : (ds : List ℕ) → (length ds ≡ 0) ⊎ (19 < length ds) → (n : ℕ) → n < 10 ^ 19 → ds ≢ decimal n

@@ -13,7 +13,7 @@ use Rattle.std.proofs.lemmas.Fmt.{digits_decimal}
 use Rattle.ntfe_model.specs.RunText.{spaced}
 use Rattle.class_text.specs.Fields.{fields_of}
 use Rattle.class_text.specs.NumberLines.{has_space}
-use Rattle.class_text.proofs.Decimals.{own}
+use Rattle.pair_text.proofs.Canonical.{own}
 
 abbrev is_space : ℕ → Bool
 is_space b = nat_eq b 32

@@ -13,6 +13,7 @@ use Rattle.ntfe_model.specs.declared.point.Point.{Point}
 use Rattle.ntfe_model.specs.declared.nogood.Fold.{Fold}
 use Rattle.ntfe_model.specs.Pairs.{IsSmall}
 use Rattle.farkas_check.specs.Folds.{IsSmallPoint, IsBalanced}
+use Rattle.ntfe_nums.proofs.Signs.{word}
 
 -- c + d = m a + n b, in the coordinate at this place of the lists
 abbrev pub IsSumAt : List ℤ → List ℤ → List ℤ → List ℤ → ℤ → ℤ → ℕ → Type 0
@@ -47,9 +48,6 @@ module _ (a b c d : Vector) (m n : ℤ) (ps qs rs ss : List ℤ) (p : ps ≡ num
       λ t. record { x1 = e1 t; x2 = e2 t; x3 = e3 t; x4 = e4 t }
 
 -- ---- words of 64 bits
-
-abbrev word : ℤ → ℤ
-word z = to_z w64 (of_z w64 z)
 
 abbrev bounds : List ℕ
 bounds = 4094 ∷ 4094 ∷ 1023 ∷ 1023 ∷ 1023 ∷ 1023 ∷ []

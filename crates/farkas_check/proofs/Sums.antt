@@ -1,15 +1,15 @@
 -- The value of a sum of folds at heights, point by point and term by term.
 --     total_value      the value of the sum of the terms is the sum of the terms' values
-use Rattle.std.proofs.Common.{◌≡◌, ◌≢◌, ℕ, zero, suc, ◌+◌, ◌-◌, ◌<◌, ◌≤◌, ◌==◌, true, false, cond, refl, ap, ◌∙◌, arith, ℤ, pos, ◌+ℤ◌, ◌-ℤ◌, ◌*ℤ◌, List, [], ◌∷◌, length, get_or}
+use Rattle.std.proofs.Common.{◌≡◌, ℕ, zero, suc, ◌+◌, ◌-◌, ◌<◌, ◌≤◌, refl, ap, ◌∙◌, arith, ℤ, pos, ◌+ℤ◌, ◌-ℤ◌, ◌*ℤ◌, List, [], ◌∷◌, length, get_or}
 use Rattle.std.specs.Prelude.{fold}
 use Rattle.std.proofs.lemmas.Int.{ints}
-use Rattle.std.proofs.lemmas.Bool.Decides.{nat_tests}
 use Rattle.ntfe_nums.proofs.Ring.{ring}
 use Rattle.ntfe_nums.proofs.Ring.Expression.{var, plus, minus, times}
 use Rattle.ntfe_model.specs.Choices.{height, fold_value}
 use Rattle.ntfe_model.specs.Certificates.{where_equal, fold_coefficient, total_coefficient}
 use Rattle.ntfe_model.specs.declared.nogood.Fold.{Fold}
 use Rattle.ntfe_model.specs.declared.nogood.Term.{Term}
+use Rattle.ntfe_model.proofs.Coefficients.{equal_there, equal_elsewhere}
 
 -- the form with coefficient f k at the point k, where the first of the heights is that of point k
 abbrev pub value : List ℤ → ℕ → (ℕ → ℤ) → ℤ
@@ -48,12 +48,6 @@ value_zero (z ∷ w) k f h =
     nothing y = omega (arith, ints)
 
 -- ---- one point
-
-equal_there : (k : ℕ) (z : ℤ) → where_equal k k z ≡ z
-equal_there k z = let e : (k == k) ≡ true = grind (arith, nat_tests) in ap (λ b. cond b z (pos 0)) e
-
-equal_elsewhere : (j k : ℕ) (z : ℤ) → j ≢ k → where_equal j k z ≡ pos 0
-equal_elsewhere j k z n = let e : (j == k) ≡ false = grind (arith, nat_tests, n) in ap (λ b. cond b z (pos 0)) e
 
 value_at : (w : List ℤ) (k i : ℕ) (z : ℤ) → value w k (λ j. where_equal (k + i) j z) ≡ z *ℤ get_or w i (pos 0)
 value_at [] k i z = let e : pos 0 ≡ z *ℤ pos 0 = omega (arith, ints) in e

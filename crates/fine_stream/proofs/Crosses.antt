@@ -1,24 +1,22 @@
 -- Sides of unit triples cross exactly where each separates the ends of the other.
 --     crossing_turns      two sides with different ends that cross lie so
 --     turns_crossing      and sides that lie so cross
-use Rattle.std.proofs.Common.{◌≡◌, ◌≢◌, ℕ, zero, suc, ◌+◌, ◌-◌, ◌<◌, ◌≤◌, ◌⊎◌, inl, inr, ⊎_elim, refl, sym, ap, ◌∙◌, subst, arith, ℤ, pos, negsuc, ◌+ℤ◌, ◌-ℤ◌, ◌*ℤ◌, ◌<ℤ◌, neg_ℤ, [], ◌∷◌, get_or}
+use Rattle.std.proofs.Common.{◌≡◌, ◌≢◌, ℕ, zero, suc, ◌+◌, ◌-◌, ◌<◌, ◌≤◌, ◌⊎◌, inl, inr, ⊎_elim, refl, sym, ap, ◌∙◌, subst, arith, ℤ, pos, negsuc, ◌+ℤ◌, ◌-ℤ◌, ◌*ℤ◌, ◌<ℤ◌, neg_ℤ, [], ◌∷◌}
 use Rattle.std.proofs.lemmas.Int.{ints}
-use Rattle.ntfe_nums.specs.Vectors.{Vector, numbers, coordinate, multiple, area, sign}
-use Rattle.ntfe_nums.proofs.Ring.{Expression, ring}
+use Rattle.ntfe_nums.specs.Vectors.{Vector, coordinate, multiple, area, sign}
+use Rattle.ntfe_nums.proofs.Ring.{ring}
 use Rattle.ntfe_nums.proofs.Ring.Expression.{var, num, plus, minus, times, neg}
 use Rattle.ntfe_nums.proofs.Signs.{positive_product, product_zero}
 use Rattle.ntfe_model.specs.Charts.{Patch, axes, place, reached, turn, IsOf, IsUnit}
 use Rattle.ntfe_model.specs.Triangulations.{DoCross, mixed, IsEndOf, HaveSameEnds}
 use Rattle.ntfe_model.specs.Charts.{AreApart}
 use Rattle.fine_stream.specs.Paths.{AreOpposite}
-use Rattle.ntfe_model.proofs.PlaneNumbers.{zero_factor, cancel, sign_positive, sign_negative, negative_product, area_turn, area_second, area_third, area_multiple, flat_last, flat_outer}
+use Rattle.ntfe_model.proofs.PlaneNumbers.{zero_factor, cancel, sign_positive, sign_negative, negative_product, area_turn, area_second, area_third, area_multiple, flat_last, flat_outer, areaE, at}
 use Rattle.ntfe_model.proofs.UnitTriples.{area_of, unit_area, unit_areas, reached_first, reached_second}
 use Rattle.ntfe_model.proofs.Folds.{unit_three}
+use Rattle.fine_triples.proofs.CrossLemmas.{cross_swap}
 
 -- ---- a point of a segment, in one coordinate and as areas
-
-abbrev at : ℕ → Vector → ℤ
-at i v = get_or (numbers v) i (pos 0)
 
 at_mixed : (i n s : ℕ) (a b : Vector) → at i (mixed n s a b) ≡ (pos n -ℤ pos s) *ℤ at i a +ℤ pos s *ℤ at i b
 at_mixed zero n s a b = refl
@@ -30,10 +28,6 @@ at_mixed (suc (suc (suc (suc i)))) n s a b = sym ((λ j. product_zero (pos n -�
 coordinate_meet : (k n s t : ℕ) (a b c d : Vector) → mixed n s a b ≡ mixed n t c d
     → (pos n -ℤ pos s) *ℤ coordinate k a +ℤ pos s *ℤ coordinate k b ≡ (pos n -ℤ pos t) *ℤ coordinate k c +ℤ pos t *ℤ coordinate k d
 coordinate_meet k n s t a b c d e = sym (at_mixed (k - 1) n s a b) ∙ ap (at (k - 1)) e ∙ at_mixed (k - 1) n t c d
-
-abbrev areaE : ℕ → ℕ → ℕ → Expression
-areaE a b c =
-    minus (times (minus (var b) (var a)) (minus (var (suc c)) (var (suc a)))) (times (minus (var (suc b)) (var (suc a))) (minus (var c) (var a)))
 
 abbrev offset : ℤ → ℤ → ℤ → ℤ → ℤ → ℤ → ℤ → ℤ
 offset n ki kj li lj x y = (li -ℤ ki) *ℤ y -ℤ (lj -ℤ kj) *ℤ x -ℤ n *ℤ ((li -ℤ ki) *ℤ kj -ℤ (lj -ℤ kj) *ℤ ki)
@@ -232,16 +226,6 @@ mixed_last n t c d e =
     ap (λ k. mixed n k c d) e
     ∙ (λ i. record { x1 = last_weight (pos n) c.x1 d.x1 i; x2 = last_weight (pos n) c.x2 d.x2 i; x3 = last_weight (pos n) c.x3 d.x3 i; x4 = last_weight (pos n) c.x4 d.x4 i })
 
-pub cross_back : (a b c d : Vector) → DoCross a b c d → DoCross c d a b
-cross_back a b c d x = record {
-  n = x.n;
-  s = x.t;
-  t = x.s;
-  range = (x.range.0, x.range.2, x.range.1);
-  meet = sym x.meet;
-  no_end = λ p. let P : Vector → Vector → Vector → Type 0 = λ k l z. IsEndOf x.n z k l in x.no_end (subst (P a b) (sym x.meet) p.1, subst (P c d) (sym x.meet) p.0);
-}
-
 where_between : (n t : ℕ) → t ≤ n → (t ≡ 0) ⊎ ((t ≡ n) ⊎ ((0 < t) × (t < n)))
 where_between n t h = grind arith
 
@@ -388,7 +372,7 @@ pub crossing_turns : (h : Patch) → AreApart h → (a b e c d f : ℕ) → IsUn
     → AreOpposite (turn h a b c) (turn h a b d) × AreOpposite (turn h c d a) (turn h c d b)
 crossing_turns h apart a b e c d f u v other x = (
   half_crossing h apart a b e c d f u v other x,
-  half_crossing h apart c d f a b e v u (λ s. other (⊎_elim (λ p. inl (sym p.0, sym p.1)) (λ p. inr (sym p.1, sym p.0)) s)) (cross_back (place h a) (place h b) (place h c) (place h d) x),
+  half_crossing h apart c d f a b e v u (λ s. other (⊎_elim (λ p. inl (sym p.0, sym p.1)) (λ p. inr (sym p.1, sym p.0)) s)) (cross_swap (place h a) (place h b) (place h c) (place h d) x),
 )
 
 -- ---- sides that lie on both sides of each other cross

@@ -8,7 +8,7 @@ use Rattle.ntfe_model.specs.Words.{IsTriangulation, IsItem, HasItemAt}
 use Rattle.ntfe_model.specs.declared.triangle.Triangle.{Triangle}
 use Rattle.ntfe_model.specs.declared.triangulation.Triangulation.{Triangulation}
 use Rattle.ntfe_model.proofs.Listings.{Contains-here, Contains-there, Contains-cases, Contains-none, AllPairs-head, AllPairs-tail, listing_nil, listing_append, listing_same}
-use Rattle.ntfe_model.proofs.Orders.{three_ways, below_once, below_chain}
+use Rattle.ntfe_model.proofs.Orders.{three_ways, below_once, below_chain, WordBelow}
 use Rattle.ntfe_model.specs.Charts.{AreApart}
 use Rattle.ntfe_model.proofs.Items.{word_fixes}
 use Rattle.fine_stream.specs.Found.{IsFirst, HasNone}
@@ -16,23 +16,21 @@ use Rattle.fine_stream.specs.Cursors.{IsPlace, Follows}
 use Rattle.fine_stream.specs.declared.position.Position.{Position}
 use Rattle.fine_stream.specs.declared.position.Position.TheVariants.{Start, After, End}
 use Rattle.fine_stream.proofs.Waiting.{triangulation_completes, completes_triangulation}
-
-abbrev Below : Triangulation → Triangulation → Type 0
-Below y z = IsBelow y.word z.word
+use Rattle.std.proofs.lemmas.List.{length-append}
 
 abbrev Lesser : Patch → List ℕ → Triangulation → Type 0
 Lesser h word y = IsTriangulation h y × IsBelow y.word word
 
 -- the triangulations up to an item
-upto_listing : (h : Patch) (m : ℕ) (x : Triangulation) (i : IsItem h m x) → IsListing Below (λ y. IsTriangulation h y × (IsBelow y.word x.word ⊎ (y ≡ x))) (i.lesser ++ x ∷ [])
+upto_listing : (h : Patch) (m : ℕ) (x : Triangulation) (i : IsItem h m x) → IsListing WordBelow (λ y. IsTriangulation h y × (IsBelow y.word x.word ⊎ (y ≡ x))) (i.lesser ++ x ∷ [])
 upto_listing h m x i =
-    listing_append Below (Lesser h x.word) (λ y. y ≡ x) (λ y. IsTriangulation h y × (IsBelow y.word x.word ⊎ (y ≡ x))) i.lesser (x ∷ []) i.listing single
+    listing_append WordBelow (Lesser h x.word) (λ y. y ≡ x) (λ y. IsTriangulation h y × (IsBelow y.word x.word ⊎ (y ≡ x))) i.lesser (x ∷ []) i.listing single
     (λ y z p e. let P : Triangulation → Type 0 = λ v. IsBelow y.word v.word in subst P (sym e) p.1)
     (λ y p. (p.0, inl p.1))
     (λ y e. ((let P : Triangulation → Type 0 = λ v. IsTriangulation h v in subst P (sym e) i.is), inr e))
     (λ y p. ⊎_elim (λ l. inl (p.0, l)) (λ e. inr e) p.1)
   where
-    single : IsListing Below (λ y. y ≡ x) (x ∷ [])
+    single : IsListing WordBelow (λ y. y ≡ x) (x ∷ [])
     single = record {
       ordered = λ j k d l g. absurd (omega arith);
       sound = one;
@@ -43,24 +41,20 @@ upto_listing h m x i =
         one zero d l = refl
         one (suc k) d l = absurd (omega (arith, l))
 
-upto_length : (xs : List Triangulation) (x : Triangulation) → length (xs ++ x ∷ []) ≡ length xs + 1
-upto_length [] x = refl
-upto_length (y ∷ xs) x = let e = upto_length xs x in omega arith
-
 module _ (h : Patch) (apart : AreApart h) (steps : List (ℕ × ℕ)) (are : AreSteps h steps) where
   pub first_item : (position : Position) (w : List ℕ) (us : List Triangle) → IsFirst h [] steps (Follows position) w us
       → (n : ℕ) → IsPlace h n position → IsItem h n (record { word = w; triangles = us })
   first_item Start w us f n e = record {
     is = completes_triangulation h apart steps (record { word = w; triangles = us }) are f.completes;
     lesser = [];
-    listing = listing_nil Below (Lesser h w) (λ y p. f.first y.word y.triangles (triangulation_completes h steps y are p.0) tt p.1);
+    listing = listing_nil WordBelow (Lesser h w) (λ y p. f.first y.word y.triangles (triangulation_completes h steps y are p.0) tt p.1);
     count = sym e;
   }
   first_item (After last) w us f n (m, x, i, e, g) = record {
     is = completes_triangulation h apart steps (record { word = w; triangles = us }) are f.completes;
     lesser = i.lesser ++ x ∷ [];
-    listing = listing_same Below (λ y. IsTriangulation h y × (IsBelow y.word x.word ⊎ (y ≡ x))) (Lesser h w) (i.lesser ++ x ∷ []) (upto_listing h m x i) below above;
-    count = upto_length i.lesser x ∙ ap (λ k. k + 1) i.count ∙ sym g;
+    listing = listing_same WordBelow (λ y. IsTriangulation h y × (IsBelow y.word x.word ⊎ (y ≡ x))) (Lesser h w) (i.lesser ++ x ∷ []) (upto_listing h m x i) below above;
+    count = length-append i.lesser (x ∷ []) ∙ ap (λ k. k + 1) i.count ∙ sym g;
   }
     where
       after : IsBelow x.word w
@@ -84,11 +78,11 @@ module _ (h : Patch) (apart : AreApart h) (steps : List (ℕ × ℕ)) (are : Are
   first_item End w us f n p = absurd f.has
 
   pub no_item : (position : Position) → HasNone h [] steps (Follows position) → (n : ℕ) → IsPlace h n position → IsPlace h n End
-  no_item Start none n e = ([], listing_nil Below (IsTriangulation h) (λ y p. none y.word y.triangles (triangulation_completes h steps y are p) tt), sym e)
+  no_item Start none n e = ([], listing_nil WordBelow (IsTriangulation h) (λ y p. none y.word y.triangles (triangulation_completes h steps y are p) tt), sym e)
   no_item (After last) none n (m, x, i, e, g) = (
     i.lesser ++ x ∷ [],
-    listing_same Below (λ y. IsTriangulation h y × (IsBelow y.word x.word ⊎ (y ≡ x))) (IsTriangulation h) (i.lesser ++ x ∷ []) (upto_listing h m x i) (λ y p. p.0) all,
-    upto_length i.lesser x ∙ ap (λ k. k + 1) i.count ∙ sym g,
+    listing_same WordBelow (λ y. IsTriangulation h y × (IsBelow y.word x.word ⊎ (y ≡ x))) (IsTriangulation h) (i.lesser ++ x ∷ []) (upto_listing h m x i) (λ y p. p.0) all,
+    length-append i.lesser (x ∷ []) ∙ ap (λ k. k + 1) i.count ∙ sym g,
   )
     where
       all : (y : Triangulation) → IsTriangulation h y → IsTriangulation h y × (IsBelow y.word x.word ⊎ (y ≡ x))
@@ -134,9 +128,9 @@ ordered_length {X} before strict (x ∷ xs) (y ∷ ys) o p f =
 
 pub end_none : (h : Patch) (n k : ℕ) → IsPlace h n End → n ≤ k → ¬ (HasItemAt h k)
 end_none h n k (xs, all, count) l (y, i) =
-    let m = ordered_length Below (λ a b. below_once a.word b.word) (i.lesser ++ y ∷ []) xs (upto_listing h k y i).ordered all.ordered
+    let m = ordered_length WordBelow (λ a b. below_once a.word b.word) (i.lesser ++ y ∷ []) xs (upto_listing h k y i).ordered all.ordered
     (λ z c. all.complete z (All-contains (λ v. IsTriangulation h v × (IsBelow v.word y.word ⊎ (v ≡ y))) (i.lesser ++ y ∷ []) z (upto_listing h k y i).sound c).0) in
-    let e = upto_length i.lesser y in let g = i.count in
+    let e = length-append i.lesser (y ∷ []) in let g = i.count in
     absurd (over (length (i.lesser ++ y ∷ [])) (length i.lesser) (length xs) count m e g)
   where
     over : (a b c : ℕ) → c ≡ n → a ≤ c → a ≡ b + 1 → b ≡ k → ⊥

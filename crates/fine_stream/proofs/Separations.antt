@@ -12,8 +12,9 @@ use Rattle.ntfe_model.proofs.Triples.{third_point, corner_next, corner_side}
 use Rattle.face_chart.proofs.Walk.{corner_sides}
 use Rattle.ntfe_model.proofs.Folds.{unit_corner}
 use Rattle.fine_stream.specs.Paths.{AreOpposite, IsBeyond, AreInConflict, AreCompatible}
-use Rattle.fine_stream.proofs.Crosses.{crossing_turns, cross_back, zero_first, zero_second, meet_area, first_weight, last_weight, only_factor}
+use Rattle.fine_stream.proofs.Crosses.{crossing_turns, zero_first, zero_second, meet_area, first_weight, last_weight, only_factor}
 use Rattle.fine_stream.proofs.Parts.{unit_side, each_side}
+use Rattle.fine_triples.proofs.CrossLemmas.{cross_swap}
 
 -- ---- weights
 
@@ -161,5 +162,5 @@ compatible_back h t u c = record { apart = λ x y z w s r k. c.apart z w x y r s
     turned x y z w (inl e) = inl (sym e.0, sym e.1)
     turned x y z w (inr e) = inr (
       (λ s. e.0 (⊎_elim (λ p. inl (sym p.0, sym p.1)) (λ p. inr (sym p.1, sym p.0)) s)),
-      cross_back (place h x) (place h y) (place h z) (place h w) e.1,
+      cross_swap (place h x) (place h y) (place h z) (place h w) e.1,
     )

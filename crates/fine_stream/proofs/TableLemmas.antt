@@ -6,7 +6,7 @@ use Rattle.std.proofs.Common.{◌≡◌, ℕ, zero, suc, ◌<◌, ◌≤◌, ⊎
 use Rattle.std.specs.Prelude.{All, AllPairs, Contains, MatchBool}
 use Rattle.std.proofs.lemmas.List.{get_or_read}
 use Rattle.std.proofs.lemmas.List.Elements.{All-contains, Contains-append_cases, Contains-append_left, Contains-append_right, Contains-get_or}
-use Rattle.ntfe_model.proofs.Listings.{Contains-here, Contains-cases, Contains-none, AllPairs-append, AllPairs-head, AllPairs-tail, All-from_contains}
+use Rattle.ntfe_model.proofs.Listings.{Contains-here, Contains-cases, Contains-none, AllPairs-append, AllPairs-head, AllPairs-tail, all_next}
 use Rattle.ntfe_model.specs.Charts.{Patch, IsOf, IsUnit, spot_numbers}
 use Rattle.ntfe_model.specs.Words.{written}
 use Rattle.ntfe_model.specs.declared.triangle.Triangle.{Triangle}
@@ -43,10 +43,6 @@ row_tells h triples q t rows row r s l e p =
 points_more : (cs : List Candidate) (x : Candidate) → map (λ y. y.point) (cs ++ x ∷ []) ≡ map (λ y. y.point) cs ++ x.point ∷ []
 points_more [] x = refl
 points_more (c ∷ cs) x = ap (λ ks. c.point ∷ ks) (points_more cs x)
-
-pub all_next : {X : Type 0} (P : X → Type 0) (xs : List X) (x : X) → All P xs → P x → All P (xs ++ x ∷ [])
-all_next {X} P xs x all p =
-    All-from_contains P (xs ++ x ∷ []) (λ y k. ⊎_elim (λ l. All-contains P xs y all l) (λ l. let Q : X → Type 0 = P in subst Q (sym (single_contains y x l)) p) (Contains-append_cases xs (x ∷ []) y k))
 
 -- the next point, where it may close the step
 pub closers_more : (h : Patch) (triples : List Triangle) (a b k : ℕ) (x : Candidate) (ks : List ℕ) (cs next : List Candidate) → x.point ≡ k → IsOf h k → IsPlaceOf triples x.place (written a b k)

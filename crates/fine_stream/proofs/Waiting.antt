@@ -21,9 +21,10 @@ use Rattle.face_chart.proofs.WordExists.{contains_any, triangulation_apart}
 use Rattle.ntfe_model.proofs.Folds.{unit_three}
 use Rattle.ntfe_model.proofs.Items.{steps_fixed}
 use Rattle.fine_stream.specs.Paths.{AreCompatible, IsPart, Completes}
-use Rattle.fine_stream.proofs.Crosses.{crossing_turns, cross_back, zero_first, zero_second}
+use Rattle.fine_stream.proofs.Crosses.{crossing_turns, zero_first, zero_second}
 use Rattle.fine_stream.proofs.Parts.{unit_side, part_left, single_contains}
 use Rattle.fine_stream.proofs.Searches.{closed, fits_unit}
+use Rattle.fine_triples.proofs.CrossLemmas.{cross_swap}
 
 -- what waits: the boundary steps that are no side yet, and the reverses of sides that are neither boundary steps nor have their reverse yet
 pub record IsWaiting (h : Patch) (ts : List Triangle) (fs : List (ℕ × ℕ)) : Type 0 where
@@ -182,7 +183,7 @@ module _ (h : Patch) (apart : AreApart h) (ts : List Triangle) (p : IsPart h ts)
       (λ q. ⊎_elim (λ m. m.apart a b c d s.2 r.2 (inr (other, x)))
       (λ m. m.apart c d a b r.2 s.2 (inr (
         (λ z. other (⊎_elim (λ y. inl (sym y.0, sym y.1)) (λ y. inr (sym y.1, sym y.0)) z)),
-        cross_back (place h a) (place h b) (place h c) (place h d) x,
+        cross_swap (place h a) (place h b) (place h c) (place h d) x,
       ))) q)
       (pairs_cases (AreCompatible h) ts p.compatible s.0 r.0 s.1 r.1)
 

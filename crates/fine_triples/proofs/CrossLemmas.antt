@@ -2,9 +2,9 @@
 use Rattle.std.proofs.Common.{◌≡◌, ◌≢◌, ℕ, ◌-◌, ◌<◌, ◌≤◌, ◌⊎◌, inl, inr, ⊎_elim, refl, sym, ap, ◌∙◌, subst, arith, pos}
 use Rattle.ntfe_nums.specs.Vectors.{Vector, multiple}
 use Rattle.ntfe_model.specs.Triangulations.{mixed, IsEndOf, DoCross}
-use Rattle.ntfe_model.proofs.Triples.{Decided}
+use Rattle.ntfe_model.proofs.Triples.{Decided, decide_vector}
 use Rattle.fine_triples.specs.Meetings.{IsInside, HasInsideEnd, AreOneSegment, DoMeetInside}
-use Rattle.fine_triples.proofs.InsideLemmas.{decide_vector, scale_back, share_none, share_whole, share_same, share_turn, first_end, last_end}
+use Rattle.fine_triples.proofs.InsideLemmas.{scale_back, share_none, share_whole, share_same, share_turn, first_end, last_end}
 
 -- ---- the other way round
 

@@ -1,5 +1,5 @@
 -- Points of a segment: its ends, and the points inside it.
-use Rattle.std.proofs.Common.{◌≡◌, ◌≢◌, ℕ, ◌-◌, ◌<◌, ◌≤◌, inl, inr, ⊎_elim, refl, sym, ap, ◌∙◌, arith, ℤ, pos, ◌+ℤ◌, ◌-ℤ◌, ◌*ℤ◌, [], ◌∷◌, unsigned_abs}
+use Rattle.std.proofs.Common.{◌≡◌, ◌≢◌, ℕ, ◌-◌, ◌<◌, ◌≤◌, ⊎_elim, refl, sym, ap, ◌∙◌, arith, ℤ, pos, ◌+ℤ◌, ◌-ℤ◌, ◌*ℤ◌, [], ◌∷◌}
 use Rattle.std.proofs.lemmas.Int.{ints}
 use Rattle.ntfe_nums.specs.Vectors.{Vector, difference, multiple}
 use Rattle.ntfe_nums.proofs.Ring.{ring, product_comm}
@@ -8,29 +8,13 @@ use Rattle.ntfe_nums.proofs.Signs.{no_difference}
 use Rattle.ntfe_model.specs.Triangulations.{mixed}
 use Rattle.ntfe_model.proofs.PlaneNumbers.{zero_factor, cancel}
 use Rattle.face_chart.proofs.SegmentLemmas.{mix_number}
-use Rattle.ntfe_model.proofs.Triples.{Decided, decide_number}
 use Rattle.fine_triples.specs.Meetings.{IsInside}
+use Rattle.ntfe_nums.proofs.VectorLemmas.{same4}
 
 -- ---- numbers and vectors
 
 pub nothing : (s : ℤ) (a b : ℤ) → s ≢ pos 0 → s *ℤ (b -ℤ a) ≡ pos 0 → a ≡ b
 nothing s a b h e = ⊎_elim (λ p. absurd (h p)) (λ q. no_difference a b q) (zero_factor s (b -ℤ a) e)
-
-pub same4 : (a b : Vector) → a.x1 ≡ b.x1 → a.x2 ≡ b.x2 → a.x3 ≡ b.x3 → a.x4 ≡ b.x4 → a ≡ b
-same4 a b p q r s = λ i. record { x1 = p i; x2 = q i; x3 = r i; x4 = s i }
-
-pub decide_integer : (a b : ℤ) → Decided (a ≡ b)
-decide_integer a b = ⊎_elim (λ e. inl (omega (arith, ints, e))) (λ n. inr (λ p. n (omega (arith, ints, p)))) (decide_number (unsigned_abs (a -ℤ b)) 0)
-
-pub decide_vector : (a b : Vector) → Decided (a ≡ b)
-decide_vector a b = by (decide_integer a.x1 b.x1) (decide_integer a.x2 b.x2) (decide_integer a.x3 b.x3) (decide_integer a.x4 b.x4)
-  where
-    by : Decided (a.x1 ≡ b.x1) → Decided (a.x2 ≡ b.x2) → Decided (a.x3 ≡ b.x3) → Decided (a.x4 ≡ b.x4) → Decided (a ≡ b)
-    by (inl p) (inl q) (inl r) (inl s) = inl (same4 a b p q r s)
-    by (inr n) q r s = inr (λ e. n (ap (λ v. v.x1) e))
-    by (inl p) (inr n) r s = inr (λ e. n (ap (λ v. v.x2) e))
-    by (inl p) (inl q) (inr n) s = inr (λ e. n (ap (λ v. v.x3) e))
-    by (inl p) (inl q) (inl r) (inr n) = inr (λ e. n (ap (λ v. v.x4) e))
 
 positive_is : (n : ℕ) → 0 < n → pos n ≢ pos 0
 positive_is n h e = absurd (omega (arith, ints, h, e))

@@ -8,8 +8,9 @@ use Rattle.ntfe_nums.proofs.Signs.{no_difference}
 use Rattle.ntfe_model.proofs.PlaneNumbers.{negative_product}
 use Rattle.face_chart.proofs.SegmentLemmas.{total, square_is, total_none, apart_total}
 use Rattle.fine_triples.specs.Meetings.{IsInside, HasInsideEnd, AreOneSegment, DoMeetInside, gram}
-use Rattle.fine_triples.proofs.InsideLemmas.{nothing, same4, inside_from, inside_turn}
+use Rattle.fine_triples.proofs.InsideLemmas.{nothing, inside_from, inside_turn}
 use Rattle.fine_triples.proofs.CrossLemmas.{meet_turn, meet_swap}
+use Rattle.ntfe_nums.proofs.VectorLemmas.{same4}
 
 -- ---- the square of a vector
 

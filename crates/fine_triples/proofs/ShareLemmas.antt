@@ -7,7 +7,7 @@ use Rattle.ntfe_nums.proofs.Ring.Expression.{var, num, plus, minus, times}
 use Rattle.ntfe_nums.proofs.Signs.{positive_product}
 use Rattle.ntfe_model.proofs.PlaneNumbers.{cancel, positive_factor}
 use Rattle.fine_triples.specs.Meetings.{DoMeetInside, gram, first_share, second_share}
-use Rattle.fine_triples.proofs.InsideLemmas.{same4}
+use Rattle.ntfe_nums.proofs.VectorLemmas.{same4}
 use Rattle.fine_triples.proofs.ParallelLemmas.{gram_positive, meet_number}
 
 -- ---- products

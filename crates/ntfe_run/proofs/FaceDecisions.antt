@@ -9,13 +9,12 @@ use Rattle.ntfe_model.specs.Charts.{Patch, place, turn, reached, spot_numbers, I
 use Rattle.ntfe_model.proofs.Listings.{Contains-flat_map, All-from_contains}
 use Rattle.ntfe_model.proofs.Lists.{Contains-map}
 use Rattle.ntfe_model.proofs.PlaneNumbers.{sign_positive}
-use Rattle.ntfe_model.proofs.Triples.{Decided, decide_number, decide_both, decide_all3}
+use Rattle.ntfe_model.proofs.Triples.{Decided, decide_number, decide_vector, decide_not, decide_both, decide_all3}
 use Rattle.ntfe_model.proofs.UnitTriples.{area_of, unit_area}
 use Rattle.face_chart.specs.Units.{IsReached}
-use Rattle.face_chart.proofs.FineSets.{picked, decide_not}
+use Rattle.face_chart.proofs.FineSets.{picked}
 use Rattle.face_chart.proofs.SegmentLemmas.{on_segment, share_low, share_high, share_at}
 use Rattle.face_chart.proofs.UnitLemmas.{second_quotient, third_quotient}
-use Rattle.fine_triples.proofs.InsideLemmas.{decide_vector}
 use Rattle.ntfe_run.proofs.PartDecisions.{decide_each}
 use Rattle.star_builder.proofs.Decisions.{decide_all_below, decide_given}
 use Rattle.star_builder.proofs.FaceSteps.{decide_listed}

@@ -22,7 +22,7 @@ use Rattle.pair_text.proofs.Faults.{list_lines as list_lines_are}
 
 -- ---- digits
 
-own : IsNumeralModel (λ ds. all_ascii_digits ds ≡ true) (digits_value 10)
+pub own : IsNumeralModel (λ ds. all_ascii_digits ds ≡ true) (digits_value 10)
 own = numerals_by_value (λ ds. all_ascii_digits ds ≡ true) tells_all_ascii_digits
 
 filled : (xs : List ℕ) → 0 < length xs → is_filled xs ≡ true

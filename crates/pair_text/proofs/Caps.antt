@@ -1,14 +1,13 @@
 -- What a number that was cut tells of the number itself.
-use Rattle.std.proofs.Common.{◌≡◌, ◌<◌, ◌≤◌, min, ℤ, pos, negsuc, ◌≤ℤ◌, [], ◌∷◌, map, Option, Some, None, option_map, refl, ap, ◌∙◌, inl, inr, arith, lit<, w64, to_z, of_z, FitsSigned}
+use Rattle.std.proofs.Common.{◌≡◌, ◌<◌, ◌≤◌, min, ℤ, pos, negsuc, [], ◌∷◌, map, Option, Some, None, option_map, refl, ap, inl, inr, arith, lit<, w64, to_z, of_z, FitsSigned}
 use Rattle.std.specs.Prelude.{unsigned_abs, Any}
 use Rattle.std.proofs.lemmas.Int.{ints, to_z-of_z, fits_signed_from_abs}
 use Rattle.std.proofs.lemmas.Bool.{cases_lt}
 use Rattle.ntfe_nums.specs.Vectors.{Vector, numbers}
 use Rattle.ntfe_model.specs.Pairs.{IsSmall}
 use Rattle.pair_text.specs.Caps.{capped, capped_vector}
-
-abbrev pub IsSmallNumber : ℤ → Type 0
-IsSmallNumber z = (negsuc 1022 ≤ℤ z) × (z ≤ℤ pos 1023)
+use Rattle.ntfe_model.proofs.SmallVectors.{IsSmallNumber}
+use Rattle.ntfe_nums.proofs.VectorLemmas.{same4}
 
 -- a small number was not cut
 pub capped-exact : (z : ℤ) → IsSmallNumber (capped z) → z ≡ capped z
@@ -42,16 +41,9 @@ pub none-of : (o : Option ℤ) → None ≡ option_map capped o → o ≡ None
 none-of None e = refl
 none-of (Some z) e = absurd cc
 
-pub same_vector : (u v : Vector) → u.x1 ≡ v.x1 → u.x2 ≡ v.x2 → u.x3 ≡ v.x3 → u.x4 ≡ v.x4 → u ≡ v
-same_vector u v e1 e2 e3 e4 =
-    ap (λ (x : ℤ). record { x1 = x; x2 = u.x2; x3 = u.x3; x4 = u.x4 }) e1
-    ∙ ap (λ (x : ℤ). record { x1 = v.x1; x2 = x; x3 = u.x3; x4 = u.x4 }) e2
-    ∙ ap (λ (x : ℤ). record { x1 = v.x1; x2 = v.x2; x3 = x; x4 = u.x4 }) e3
-    ∙ ap (λ (x : ℤ). record { x1 = v.x1; x2 = v.x2; x3 = v.x3; x4 = x }) e4
-
 pub vector-exact : (v : Vector) → IsSmall (capped_vector v) → v ≡ capped_vector v
 vector-exact v s =
-    same_vector v (capped_vector v) (capped-exact v.x1 (s.low1, s.high1)) (capped-exact v.x2 (s.low2, s.high2)) (capped-exact v.x3 (s.low3, s.high3))
+    same4 v (capped_vector v) (capped-exact v.x1 (s.low1, s.high1)) (capped-exact v.x2 (s.low2, s.high2)) (capped-exact v.x3 (s.low3, s.high3))
     (capped-exact v.x4 (s.low4, s.high4))
 
 -- where not all are small, some size is too large

@@ -10,7 +10,7 @@ use Rattle.ntfe_model.specs.PairText.{Line, Due, count_of, four_numbers, nothing
 use Rattle.pair_text.specs.declared.fault.TextFault.{TextFault}
 use Rattle.pair_text.specs.declared.fault.TextFault.TheVariants.{BadLine, BadNumber, TooLarge, Count, Short, Long, Memory}
 use Rattle.pair_text.specs.Faults.{IsCauseIn}
-use Rattle.pair_text.proofs.Caps.{same_vector}
+use Rattle.ntfe_nums.proofs.VectorLemmas.{same4}
 use Rattle.ntfe_model.proofs.SmallVectors.{small_size}
 
 -- ---- a line has one meaning
@@ -34,7 +34,7 @@ numbers_fixed (z ∷ zs) (y ∷ ys) e =
 vector_fixed : (line : Line) (u v : Vector) → IsVectorLine line u → IsVectorLine line v → u ≡ v
 vector_fixed line u v g h =
     let e = numbers_fixed (numbers u) (numbers v) (sym g.numbers_are ∙ h.numbers_are) in
-    same_vector u v (cc e) (cc e) (cc e) (cc e)
+    same4 u v (cc e) (cc e) (cc e) (cc e)
 
 -- ---- the lines of a list, and what follows them
 

@@ -2,7 +2,7 @@ use Rattle.std.proofs.Common.{List, subst, sym}
 use Rattle.std.specs.Prelude.{All}
 use Rattle.fine_stream.specs.Places.{IsFan}
 use Rattle.fine_stream.specs.declared.tables.Fan.{Fan}
-use Rattle.fine_stream.proofs.TableLemmas.{all_next}
+use Rattle.ntfe_model.proofs.Listings.{all_next}
 use Rattle.fine_stream.proofs.tables.add_fans.Goals as goal
 
 pub loop-b-preserved : goal.loop-b-preserved

@@ -2,7 +2,7 @@ use Rattle.std.proofs.Common.{List, subst, sym, refl}
 use Rattle.ntfe_model.specs.declared.triangle.Triangle.{Triangle}
 use Rattle.ntfe_model.specs.Charts.{IsUnit}
 use Rattle.fine_stream.specs.Places.{AreUnit}
-use Rattle.fine_stream.proofs.TableLemmas.{all_next}
+use Rattle.ntfe_model.proofs.Listings.{all_next}
 use Rattle.fine_stream.proofs.tables.add_triple.Goals as goal
 
 pub returns-in_ok-push : goal.returns-in_ok-push

@@ -3,7 +3,7 @@ use Rattle.ntfe_nums.specs.Vectors.{Vector, vector, numbers, difference}
 use Rattle.fine_triples.specs.declared.meeting.Shares.{Shares}
 use Rattle.fine_triples.specs.Meetings.{DoMeetInside, gram, first_share, second_share}
 use Rattle.fine_triples.specs.ShareNumbers.{AreInside, IsMetAt}
-use Rattle.fine_triples.proofs.InsideLemmas.{decide_integer}
+use Rattle.ntfe_model.proofs.Triples.{decide_integer}
 use Rattle.fine_triples.proofs.ShareLemmas.{meets_from, shares_inside, shares_at}
 use Rattle.fine_triples.proofs.meeting.do_meet_inside.Goals as goal
 

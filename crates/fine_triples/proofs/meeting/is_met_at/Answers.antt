@@ -4,7 +4,7 @@ use Rattle.ntfe_nums.proofs.Ring.{Expression}
 use Rattle.ntfe_nums.proofs.Ring.Expression.{var, minus, times}
 use Rattle.ntfe_nums.proofs.Machine.{AreBounded, AreWithin-four, exact, fits}
 use Rattle.ntfe_nums.proofs.Comparisons.{same_from_test}
-use Rattle.face_chart.proofs.Walk.{number_same}
+use Rattle.ntfe_nums.proofs.Comparisons.{test_from_same}
 use Rattle.fine_triples.specs.declared.meeting.Shares.{Shares}
 use Rattle.fine_triples.specs.ShareNumbers.{AreSmallShares}
 use Rattle.fine_triples.proofs.meeting.is_met_at.Goals as goal
@@ -54,5 +54,5 @@ returns c =
     let g = fits w64 vs bounds h rightE refl in
     record {
       when_true = λ t. sym p ∙ ap (to_z w64) (same_from_test _ _ t) ∙ q;
-      when_false = λ t e. let b : true ≡ false = sym (number_same _ _ (ap (of_z w64) (sym (to_z-of_z f) ∙ p ∙ e ∙ sym q ∙ to_z-of_z g))) ∙ t in cc;
+      when_false = λ t e. let b : true ≡ false = sym (test_from_same _ _ (ap (of_z w64) (sym (to_z-of_z f) ∙ p ∙ e ∙ sym q ∙ to_z-of_z g))) ∙ t in cc;
     }

@@ -2,7 +2,8 @@ use Rattle.std.proofs.Common.{lit<, refl, ◌∙◌}
 use Rattle.ntfe_nums.specs.Vectors.{Vector}
 use Rattle.ntfe_model.specs.PairText.{number}
 use Rattle.pair_text.specs.Caps.{capped_vector}
-use Rattle.pair_text.proofs.Caps.{capped-back, number-of, none-of, numbers-of, same_vector}
+use Rattle.pair_text.proofs.Caps.{capped-back, number-of, none-of, numbers-of}
+use Rattle.ntfe_nums.proofs.VectorLemmas.{same4}
 use Rattle.pair_text.proofs.number.four_numbers.Goals as goal
 
 pub returns-in_err-number-2 : goal.returns-in_err-number-2
@@ -25,5 +26,5 @@ returns c =
       exact = v;
       are = numbers-of _ _ _ _ v z1.1 z2.1 z3.1 z4.1;
       is = c.new.ensures
-          ∙ same_vector _ (capped_vector v) (capped-back z1.0 _ z1.2 ∙ z1.2) (capped-back z2.0 _ z2.2 ∙ z2.2) (capped-back z3.0 _ z3.2 ∙ z3.2) (capped-back z4.0 _ z4.2 ∙ z4.2);
+          ∙ same4 _ (capped_vector v) (capped-back z1.0 _ z1.2 ∙ z1.2) (capped-back z2.0 _ z2.2 ∙ z2.2) (capped-back z3.0 _ z3.2 ∙ z3.2) (capped-back z4.0 _ z4.2 ∙ z4.2);
     }

@@ -1,7 +1,8 @@
 use Rattle.std.proofs.Common.{[], ◌∷◌, refl, sym, ap, ◌∙◌, subst, lit<}
 use Rattle.std.proofs.lemmas.Bool.{false≢true}
 use Rattle.ntfe_model.specs.PairText.{number}
-use Rattle.pair_text.proofs.Caps.{IsSmallNumber, number-of, capped-back, capped-large}
+use Rattle.pair_text.proofs.Caps.{number-of, capped-back, capped-large}
+use Rattle.ntfe_model.proofs.SmallVectors.{IsSmallNumber}
 use Rattle.pair_text.proofs.reading.read_count.Goals as goal
 
 pub returns-then-not-is_small-clause-fault : goal.returns-then-not-is_small-clause-fault
