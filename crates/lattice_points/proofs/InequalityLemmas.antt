@@ -1,11 +1,11 @@
 -- Sums of two inequalities, and what they leave of an extent.
-use Rattle.std.proofs.Common.{◌≡◌, ℕ, zero, suc, ◌≤◌, ◌^◌, refl, sym, ap, ◌∙◌, subst, arith, ℤ, pos, negsuc, ◌+ℤ◌, ◌-ℤ◌, ◌*ℤ◌, ◌≤ℤ◌, List, [], ◌∷◌, ◌++◌, get_or, unsigned_abs, w64, to_z, of_z, FitsSigned}
+use Rattle.std.proofs.Common.{◌≡◌, ℕ, ◌≤◌, ◌^◌, refl, sym, ap, ◌∙◌, subst, arith, ℤ, pos, negsuc, ◌+ℤ◌, ◌-ℤ◌, ◌*ℤ◌, ◌≤ℤ◌, List, [], ◌∷◌, get_or, unsigned_abs, w64, to_z, of_z, FitsSigned}
 use Rattle.std.specs.Prelude.{All, Contains, ◌↔◌}
 use Rattle.std.proofs.lemmas.Int.{ints}
 use Rattle.std.proofs.lemmas.List.Elements.{All-contains}
 use Rattle.ntfe_nums.specs.Vectors.{Vector, numbers, dot}
 use lib.Signed.{≤ℤ_refl}
-use Rattle.ntfe_nums.proofs.Ring.{Expression, ring}
+use Rattle.ntfe_nums.proofs.Ring.{Expression, ring, zero_product, product_zero}
 use Rattle.ntfe_nums.proofs.Ring.Expression.{var, num, plus, minus, times}
 use Rattle.ntfe_nums.proofs.Machine.{machine, raw, exact, fits, value-size, back, AreWithin-four}
 use Rattle.ntfe_nums.specs.Sizes.{AreWithin}
@@ -160,12 +160,6 @@ short_all ms ss h = λ i d l. (h i d l).short
 pub given_all : (ms : List Vector) (k : Cancelled) (ss : List Inequality) → All (IsSum ms k) ss → All (IsGiven ms) ss
 given_all ms k ss h = λ i d l. (h i d l).0
 
-pub all_next : {X : Type 0} (P : X → Type 0) (xs : List X) (x : X) → All P xs → P x → All P (xs ++ x ∷ [])
-all_next P [] x all p zero d l = p
-all_next P [] x all p (suc i) d l = absurd (omega (arith, l))
-all_next P (y ∷ ys) x all p zero d l = all zero d (omega arith)
-all_next P (y ∷ ys) x all p (suc i) d l = all_next P ys x (λ j e m. all (suc j) e (omega (arith, m))) p i d (omega (arith, l))
-
 pub size_of : (x y : ℤ) → x ≡ y → unsigned_abs x ≤ 1023 → unsigned_abs y ≤ 1023
 size_of x y e h = let P : ℤ → Type 0 = λ z. unsigned_abs z ≤ 1023 in subst P e h
 
@@ -218,20 +212,14 @@ module _ (p : VertexLists) (b : Bounds) (x : Vector) (are : AreBoundsOf p.vertic
     high = extent_high (λ v. v.x3) p.vertices b.x3 x.x3 are.third k.box.high3;
   }
 
-none_times : (z : ℤ) → pos 0 *ℤ z ≡ pos 0
-none_times z = omega (arith, ints)
-
-times_none : (z : ℤ) → z *ℤ pos 0 ≡ pos 0
-times_none z = omega (arith, ints)
-
 -- an inequality in the first two coordinates bounds the second
 pub second_holds : (ms : List Vector) (s : Inequality) (x : Vector) (x1 level : ℤ) → IsGiven ms s → s.c3 ≡ pos 0 → s.c4 ≡ pos 0 → level ≡ s.c1 *ℤ x1 +ℤ s.c2 *ℤ pos 0 +ℤ s.rest → IsOpen ms x → x.x1 ≡ x1
     → negsuc 0 ≤ℤ (level +ℤ s.c2 *ℤ x.x2)
 second_holds ms s x x1 level g e3 e4 e o f =
     let h = g.holds x o in
-    let n3 = ap (λ y. y *ℤ x.x3) e3 ∙ none_times x.x3 in
-    let n4 = ap (λ y. y *ℤ x.x4) e4 ∙ none_times x.x4 in
-    let n2 = times_none s.c2 in
+    let n3 = ap (λ y. y *ℤ x.x3) e3 ∙ zero_product x.x3 in
+    let n4 = ap (λ y. y *ℤ x.x4) e4 ∙ zero_product x.x4 in
+    let n2 = product_zero s.c2 in
     let n1 = ap (λ y. s.c1 *ℤ y) f in
     omega (arith, ints)
 
@@ -240,7 +228,7 @@ pub third_holds : (ms : List Vector) (s : Inequality) (x : Vector) (x1 x2 level 
     → negsuc 0 ≤ℤ (level +ℤ s.c3 *ℤ x.x3)
 third_holds ms s x x1 x2 level g e4 e o f1 f2 =
     let h = g.holds x o in
-    let n4 = ap (λ y. y *ℤ x.x4) e4 ∙ none_times x.x4 in
+    let n4 = ap (λ y. y *ℤ x.x4) e4 ∙ zero_product x.x4 in
     let n1 = ap (λ y. s.c1 *ℤ y) f1 in
     let n2 = ap (λ y. s.c2 *ℤ y) f2 in
     omega (arith, ints)
@@ -250,7 +238,7 @@ pub row_holds : (ms : List Vector) (s : Inequality) (x : Vector) (x1 x3 level : 
     → negsuc 0 ≤ℤ (level +ℤ s.c2 *ℤ x.x2)
 row_holds ms s x x1 x3 level g e4 e o f1 f3 =
     let h = g.holds x o in
-    let n4 = ap (λ y. y *ℤ x.x4) e4 ∙ none_times x.x4 in
+    let n4 = ap (λ y. y *ℤ x.x4) e4 ∙ zero_product x.x4 in
     let n1 = ap (λ y. s.c1 *ℤ y) f1 in
     let n3 = ap (λ y. s.c3 *ℤ y) f3 in
     omega (arith, ints)

@@ -17,9 +17,6 @@ use Rattle.nogood_store.specs.Parts.{IsFetched, HasUnfetched}
 abbrev pub Keeps : Type 0
 Keeps = ℕ → ℕ → Option Triangulation
 
-pub keeps_all_in_turn : (first second third : Keeps) → KeepsAll first second → KeepsAll second third → KeepsAll first third
-keeps_all_in_turn first second third h k face number x e = k face number x (h face number x e)
-
 part_stays : (before after : Keeps) (g : Shape) → KeepsAll before after → (p : Part) → KeepsPart before g p → KeepsPart after g p
 part_stays before after g h p k = (k.0, k.1, (k.2.0, h p.face p.item k.2.0 k.2.1))
 

@@ -2,7 +2,7 @@ use Rattle.std.proofs.Common.{List, subst, sym}
 use Rattle.std.specs.Prelude.{All}
 use Rattle.lattice_points.specs.Inequalities.{IsSum}
 use Rattle.lattice_points.specs.declared.inequality.Inequality.{Inequality}
-use Rattle.lattice_points.proofs.InequalityLemmas.{all_next}
+use Rattle.ntfe_model.proofs.Listings.{all_next}
 use Rattle.lattice_points.proofs.inequality.add_sum.Goals as goal
 
 pub returns-in_ok-push-in-Some : goal.returns-in_ok-push-in-Some

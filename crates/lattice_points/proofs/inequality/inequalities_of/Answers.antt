@@ -4,7 +4,7 @@ use Rattle.std.proofs.lemmas.List.Elements.{Contains-get_or}
 use Rattle.ntfe_nums.specs.Vectors.{Vector}
 use Rattle.lattice_points.specs.Inequalities.{IsGiven}
 use Rattle.lattice_points.specs.declared.inequality.Inequality.{Inequality}
-use Rattle.lattice_points.proofs.InequalityLemmas.{all_next}
+use Rattle.ntfe_model.proofs.Listings.{all_next}
 use Rattle.lattice_points.proofs.inequality.inequalities_of.Goals as goal
 
 pub loop-m-preserved : goal.loop-m-preserved

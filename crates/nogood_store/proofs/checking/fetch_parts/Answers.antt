@@ -1,4 +1,5 @@
-use Rattle.nogood_store.proofs.Fetched.{keeps_all_in_turn, part_more, parts_all, when_found}
+use Rattle.nogood_store.proofs.Fetched.{part_more, parts_all, when_found}
+use Rattle.ntfe_model.proofs.Books.{keeps_all_in_turn}
 use Rattle.nogood_store.proofs.checking.fetch_parts.Goals as goal
 
 pub loop-part-preserved : goal.loop-part-preserved

@@ -1,7 +1,7 @@
 use Rattle.std.proofs.Common.{refl, sym, subst, arith}
 use mir.Val.{bool_byte}
 use Rattle.nogood_store.specs.Receipts.{Adds}
-use Rattle.nogood_store.proofs.Fetched.{keeps_all_in_turn}
+use Rattle.ntfe_model.proofs.Books.{keeps_all_in_turn}
 use Rattle.nogood_store.proofs.Taken.{nothing_found, looks, looks_count, adds}
 use Rattle.nogood_store.proofs.store.Store.refresh.Goals as goal
 
