@@ -4,7 +4,6 @@
 mod gates;
 mod items;
 mod layers;
-mod lists;
 mod pairs;
 mod pool;
 mod refusals;

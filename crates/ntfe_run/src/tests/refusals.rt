@@ -1,9 +1,10 @@
 //! Runs on a bad day: reads and writes that fail or come short, and earlier outputs that were cut or altered.
+ghost use Rattle.std.specs.Prelude.{None};
 
 use crate::run;
 use crate::tests::pairs::{SIMPLEX, SQUARES, TT};
 use crate::tests::runs::{Outcome, owned};
-use io_edge::{Failed, Gate, MemorySink, MemorySource, OpenGate, Sink};
+use io_edge::{Failed, Gate, MemorySink, MemorySource, OpenGate, Sink, SliceSource};
 use std::alloc::{AllocError, Global};
 use std::sync::Wait;
 use std::thread::Threads;
@@ -16,10 +17,9 @@ const NO_CALL: u64 = 1 << 40;
 pub struct Given {
     /// How many bytes a read gives at most.
     step: usize,
-    /// The calls of the source, of `out` and of `err` that fail, counted from 0.
+    /// The calls of the source and of `out` that fail, counted from 0.
     failing_read: u64,
     failing_write: u64,
-    failing_message: u64,
 }
 
 /// No call fails, and each read gives what is asked for.
@@ -27,7 +27,6 @@ pub const GOOD_DAY: Given = Given {
     step: 1 << 20,
     failing_read: NO_CALL,
     failing_write: NO_CALL,
-    failing_message: NO_CALL,
 };
 
 /// How a run behind a gate ends, and what it wrote.
@@ -44,7 +43,7 @@ pub fn ended_behind<R: Threads + Wait + Sync, G: Gate + Sync>(
     let failing = vec![in alloc; given.failing_read]?;
     let mut source = MemorySource::new(bytes, given.step.max(1), failing);
     let mut out = MemorySink::new(alloc, 100000, vec![in alloc; given.failing_write]?)?;
-    let mut err = MemorySink::new(alloc, 1000, vec![in alloc; given.failing_message]?)?;
+    let mut err = MemorySink::new(alloc, 1000, Vec::new(alloc))?;
     let words = words.as_slice();
     let status = run(rt, alloc, words, &mut source, &mut out, &mut err, gate);
     Ok(Outcome {
@@ -240,16 +239,45 @@ fn a_number_that_is_too_wide_at_once(rt: HostRuntime) -> Result<(), AllocError> 
     Ok(())
 }
 
+/// A sink whose every call fails.
+#[derive(Drop)]
+struct MuteSink {
+    faults: u64,
+}
+
+impl Sink for MuteSink {
+    ghost taken = { λ _. None };
+
+    ghost faults = { λ s. s.faults };
+
+    fn write(&mut self, _bytes: &[u8]) -> Result<usize, Failed> {
+        self.faults = self.faults.saturating_add(1);
+        Err(Failed)
+    }
+}
+
+/// The exit status of a run whose messages cannot be written.
+fn mute_code<R: Threads + Wait + Sync>(
+    rt: &R,
+    alloc: Global,
+    words: &[&str],
+    text: &str,
+) -> Result<u8, AllocError> {
+    let words = owned(alloc, words)?;
+    let words = words.as_slice();
+    let mut source = SliceSource {
+        bytes: text.as_bytes(),
+    };
+    let mut out = MemorySink::new(alloc, 1000, Vec::new(alloc))?;
+    let mut err = MuteSink { faults: 0 };
+    Ok(run(rt, alloc, words, &mut source, &mut out, &mut err, &OpenGate).code())
+}
+
 #[test]
 fn messages_that_cannot_be_written(rt: HostRuntime) -> Result<(), AllocError> {
     let alloc = rt.alloc();
-    let mute = Given {
-        failing_message: 0,
-        ..GOOD_DAY
-    };
-    let wide = ["classes", "--width", "1"];
-    assert!(rt; ended(&rt, alloc, &wide, SQUARES.as_bytes(), &mute)?.code == 4);
-    assert!(rt; ended(&rt, alloc, &["classes"], b"vertices 5\n", &mute)?.code == 3);
-    assert!(rt; ended(&rt, alloc, &["clases"], SIMPLEX.as_bytes(), &mute)?.code == 2);
+    assert!(rt; mute_code(&rt, alloc, &["classes", "--width", "1"], SQUARES)? == 4);
+    assert!(rt; mute_code(&rt, alloc, &["classes"], "vertices 5\n")? == 3);
+    assert!(rt; mute_code(&rt, alloc, &["clases"], SIMPLEX)? == 2);
     Ok(())
 }
