@@ -9,7 +9,7 @@ use Rattle.ntfe_model.specs.Choices.{IsChoice, IsExtendable}
 use Rattle.ntfe_model.specs.Keys.{IsAfter, IsPruned}
 use Rattle.ntfe_model.specs.declared.nogood.Nogood.{Nogood}
 use Rattle.ntfe_model.proofs.Listings.{Contains-here, Contains-there, Contains-cases, All-from_contains, AllPairs-head}
-use Rattle.ntfe_model.proofs.Orders.{below_chain, three_ways}
+use Rattle.ntfe_model.proofs.Orders.{after_chain, below_chain, three_ways}
 use Rattle.choice_board.specs.States.{State}
 use Rattle.choice_board.specs.Starts.{new_board}
 use Rattle.choice_board.specs.Telling.{IsTaken, IsBlocked, AreAllBlocked}
@@ -20,7 +20,7 @@ use Rattle.choice_board.specs.declared.record.Found.TheVariants.{Class as FoundC
 use Rattle.choice_board.specs.Verdicts.{IsTrueOf, pruned_by}
 use Rattle.choice_board.specs.declared.verdict.Verdict.{Verdict}
 use Rattle.choice_board.specs.declared.verdict.Settled.TheVariants.{Stale, Taken}
-use Rattle.choice_board.proofs.SettleLemmas.{after_below, blockable}
+use Rattle.choice_board.proofs.SettleLemmas.{blockable}
 
 -- the last clause follows from the one before
 finish : (g : Shape) (after : Option (List ℕ)) (classes : List (List ℕ)) (t : State) → t.geometry ≡ g
@@ -101,7 +101,7 @@ above_all after (k ∷ ks) choice falling up =
 
 above_start : (after : Option (List ℕ)) (classes : List (List ℕ)) (choice : List ℕ) → All (IsAfter after) classes → IsAfter (newest after classes) choice → IsAfter after choice
 above_start after [] choice all up = up
-above_start after (k ∷ ks) choice all up = after_below after k choice (All-contains (IsAfter after) (k ∷ ks) k all (Contains-here k k ks refl)) up
+above_start after (k ∷ ks) choice all up = after_chain after k choice (All-contains (IsAfter after) (k ∷ ks) k all (Contains-here k k ks refl)) up
 
 grows : (g : Shape) (after : Option (List ℕ)) (classes : List (List ℕ)) (s t : State) (choice : List ℕ) (found : Found) → IsWithoutGaps g after classes s → IsTaken s t choice found
     → IsExtendable s.geometry choice → t.last ≡ Some choice → IsWithoutGaps g after (choice ∷ classes) t

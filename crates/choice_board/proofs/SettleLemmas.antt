@@ -8,7 +8,7 @@ use Rattle.ntfe_model.specs.Shapes.{Shape}
 use Rattle.ntfe_model.specs.Keys.{IsKey, IsAfter, IsPruned, stem, last_number, item_limit}
 use Rattle.ntfe_model.specs.declared.nogood.Nogood.{Nogood}
 use Rattle.ntfe_model.proofs.Listings.{Contains-here, Contains-cases, Contains-none, All-from_contains, AllPairs-append}
-use Rattle.ntfe_model.proofs.Orders.{below_chain, three_ways}
+use Rattle.ntfe_model.proofs.Orders.{after_chain, three_ways}
 use Rattle.choice_board.specs.Places.{cone, under, IsIn, raised, first_under}
 use Rattle.choice_board.specs.Verdicts.{IsTrueOf, opened_by, recorded_by, pruned_by}
 use Rattle.choice_board.specs.States.{State, Holder, waits, told, blocks, ends, IsHolder, place_of_record, IsTrueRecord, IsSound}
@@ -75,10 +75,6 @@ gives_way s t key v has k = record { had = has; from = from; stays = stays; come
         (Contains-append_cases (map waits (opened_by key v)) (told_if (recorded_by key v) ++ map blocks (pruned_by key v)) h p)
 
 -- ---- what comes is true, and above
-
-pub after_below : (last : Option (List ℕ)) (j k : List ℕ) → IsAfter last j → IsBelow j k → IsAfter last k
-after_below None j k a b = a
-after_below (Some l) j k a b = below_chain l j k a b
 
 raised_is_key : (g : Shape) (key : List ℕ) → IsKey g key → last_number key < item_limit g → IsKey g (raised key)
 raised_is_key g key k less =
@@ -190,7 +186,7 @@ sound_here s t key v sound has true_of k falling records_falling = record {
   shape = sound.shape;
   keys = All-from_contains (IsKey g) t.open_keys (λ j p. ⊎_elim (λ q. All-contains (IsKey g) s.open_keys j sound.keys q.0) (λ q. (openable g key v is_key true_of j q).0) ((k.open_keys j).0 p));
   falling = falling;
-  above = All-from_contains (IsAfter s.last) t.open_keys (λ j p. ⊎_elim (λ q. All-contains (IsAfter s.last) s.open_keys j sound.above q.0) (λ q. after_below s.last key j after (openable g key v is_key true_of j q).1) ((k.open_keys j).0 p));
+  above = All-from_contains (IsAfter s.last) t.open_keys (λ j p. ⊎_elim (λ q. All-contains (IsAfter s.last) s.open_keys j sound.above q.0) (λ q. after_chain s.last key j after (openable g key v is_key true_of j q).1) ((k.open_keys j).0 p));
   record_keys = All-from_contains (λ r. IsKey g r.key) t.recorded (λ r p. ⊎_elim (λ q. All-contains (λ r'. IsKey g r'.key) s.recorded r sound.record_keys q) (λ e. subst (IsKey g) (sym (recordable g key v r true_of e).1) is_key) ((k.recorded r).0 p));
   records = All-from_contains (λ r. IsTrueRecord g r.key r.found) t.recorded (λ r p. ⊎_elim (λ q. All-contains (λ r'. IsTrueRecord g r'.key r'.found) s.recorded r sound.records q) (λ e. (recordable g key v r true_of e).0) ((k.recorded r).0 p));
   records_falling = records_falling;

@@ -9,7 +9,7 @@ use Rattle.ntfe_model.specs.Shapes.{Shape}
 use Rattle.ntfe_model.specs.Choices.{IsChoice}
 use Rattle.ntfe_model.specs.Keys.{IsKey, IsAfter}
 use Rattle.ntfe_model.proofs.Listings.{Contains-here, Contains-cases, Contains-none, All-from_contains}
-use Rattle.ntfe_model.proofs.Orders.{below_chain}
+use Rattle.ntfe_model.proofs.Orders.{after_chain, below_chain}
 use Rattle.choice_board.specs.Places.{Place, under, IsIn}
 use Rattle.choice_board.specs.States.{State, Holder, waits, told, blocks, ends, IsHolder, place_of, place_of_record, place_of_stop, IsTrueRecord, IsSound}
 use Rattle.choice_board.specs.Telling.{IsNext, IsBlocked, IsTaken, AreAllBlocked}
@@ -20,7 +20,6 @@ use Rattle.choice_board.specs.declared.record.Stop.{Stop}
 use Rattle.choice_board.specs.declared.totals.Totals.{Totals}
 use Rattle.choice_board.proofs.KeyOrder.{not_below_itself}
 use Rattle.choice_board.proofs.PlaceLemmas.{under_not_below, cone_not_below}
-use Rattle.choice_board.proofs.SettleLemmas.{after_below}
 use Rattle.choice_board.proofs.Holders.{GivesWay, AreParts, one_part, still_held, still_apart}
 
 -- ---- the last of the recorded outcomes is the least
@@ -131,7 +130,7 @@ class_sound s rest r totals sound running e clear long place = record {
   records_above = All-from_contains (λ q. IsBelow r.key q.key) rest (λ q p. rest_above s rest r q sound e p);
   blocked = sound.blocked;
   once = sound.once;
-  held = λ some c choice up. by c up (sound.held some c choice (after_below s.last r.key c above up));
+  held = λ some c choice up. by c up (sound.held some c choice (after_chain s.last r.key c above up));
   apart = λ h i c p q. sound.apart h i c (old h p) (old i q);
 }
   where

@@ -10,4 +10,6 @@ pub mod Numbers
 pub mod Standing
 pub mod RowLemmas
 pub mod BookLemmas
+pub mod PartDecisions
+pub mod AllItems
 pub mod Separations

@@ -1,46 +1,9 @@
 //! Worked pairs.
-ghost use Rattle.std.specs.Prelude.{IfSome, IfOk};
-ghost use Rattle.ntfe_model.specs.Pairs.{IsSmall, IsBoundedList};
 
 use crate::{PointFault, points};
-use ntfe_model::{Pair, Vec4};
+use ntfe_model::Pair;
 use std::alloc::Global;
 use std::test::Fail;
-
-fn small_vector(row: &[i64; 4]) -> Option<Vec4>
-    ensures { IfSome result IsSmall }
-{
-    let [a, b, c, d] = *row;
-    if a < -1023 || a > 1023 || b < -1023 || b > 1023 {
-        return None;
-    }
-    if c < -1023 || c > 1023 || d < -1023 || d > 1023 {
-        return None;
-    }
-    Some(Vec4::new([a, b, c, d]))
-}
-
-fn bounded_list(alloc: Global, rows: &[[i64; 4]]) -> Result<Vec<Vec4>, Fail>
-    ensures { IfOk result (λ v. IsBoundedList v.items) }
-{
-    let mut list = Vec::new(alloc);
-    for row in rows {
-        let Some(vector) = small_vector(row) else {
-            return Err(Fail::new("a coordinate"));
-        };
-        list.push(vector)?;
-    }
-    if list.len() < 5 || list.len() > 64 {
-        return Err(Fail::new("the entries"));
-    }
-    Ok(list)
-}
-
-fn pair_of(alloc: Global, vertices: &[[i64; 4]], dual: &[[i64; 4]]) -> Result<Pair, Fail> {
-    let vertices = bounded_list(alloc, vertices)?;
-    let dual = bounded_list(alloc, dual)?;
-    Ok(Pair::new(vertices, dual))
-}
 
 /// The number of points, or the fault.
 fn count_of(
@@ -48,7 +11,9 @@ fn count_of(
     vertices: &[[i64; 4]],
     dual: &[[i64; 4]],
 ) -> Result<Result<usize, PointFault>, Fail> {
-    let pair = pair_of(alloc, vertices, dual)?;
+    let Ok(pair) = Pair::try_new(alloc, vertices, dual) else {
+        return Err(Fail::new("a pair"));
+    };
     match points(alloc, &pair) {
         Ok(list) => Ok(Ok(list.as_slice().len())),
         Err(fault) => Ok(Err(fault)),
@@ -137,7 +102,9 @@ fn counts(rt: HostRuntime) -> Result<(), Fail> {
 
 #[test]
 fn points_of_the_simplex(rt: HostRuntime) -> Result<(), Fail> {
-    let pair = pair_of(rt.alloc(), &SIMPLEX, &SIMPLEX_DUAL)?;
+    let Ok(pair) = Pair::try_new(rt.alloc(), &SIMPLEX, &SIMPLEX_DUAL) else {
+        return Err(Fail::new("a pair"));
+    };
     let list = points(rt.alloc(), &pair)?;
     let want = [
         ([-1, -1, -1, -1], [2, 3, 4, 5]),

@@ -1,7 +1,7 @@
 -- On a fine triangulation of a face whose points lie apart: all folds are positive exactly where every other point lies above each triple.
 --     above_gives_folds      the folds are positive where the heights lift
 --     folds_give_above      and the other way round
-use Rattle.std.proofs.Common.{◌≡◌, ◌≢◌, ℕ, zero, suc, ◌<◌, ◌≤◌, ◌⊎◌, ◌↔◌, inl, inr, ⊎_elim, refl, sym, ap, ◌∙◌, subst, arith, ℤ, pos, negsuc, ◌+ℤ◌, ◌-ℤ◌, ◌*ℤ◌, ◌<ℤ◌, ◌≤ℤ◌, neg_ℤ, List, [], ◌∷◌}
+use Rattle.std.proofs.Common.{◌≡◌, ◌≢◌, ℕ, ◌<◌, ◌⊎◌, ◌↔◌, inl, inr, ⊎_elim, refl, sym, ap, ◌∙◌, subst, arith, ℤ, pos, negsuc, ◌+ℤ◌, ◌-ℤ◌, ◌*ℤ◌, ◌<ℤ◌, ◌≤ℤ◌, neg_ℤ, List, [], ◌∷◌}
 use Rattle.std.specs.Prelude.{Contains}
 use Rattle.std.proofs.lemmas.Int.{ints}
 use Rattle.ntfe_nums.specs.Vectors.{vector_sum, multiple}
@@ -14,7 +14,7 @@ use Rattle.ntfe_model.specs.declared.nogood.Fold.{Fold}
 use Rattle.ntfe_model.proofs.Listings.{Contains-here, Contains-there, Contains-cases, Contains-none}
 use Rattle.ntfe_nums.proofs.Ring.{ring}
 use Rattle.ntfe_nums.proofs.Ring.Expression.{var, num, plus, minus, times}
-use Rattle.ntfe_nums.proofs.Signs.{positive_product}
+use Rattle.ntfe_nums.proofs.Signs.{positive_product, less_or_least}
 use Rattle.ntfe_model.proofs.PlaneNumbers.{sign_negative, area_turn, area_swap, flat_last, flat_outer, flat_front, plane_first, plane_rise}
 use Rattle.ntfe_model.specs.Charts.{AreApart}
 use Rattle.ntfe_model.proofs.Triples.{third_point, corner_side, decide_is_side}
@@ -219,17 +219,6 @@ beyond_above h w x fine folds t i p o (inr (inr l)) = neighbour_above h w x fine
 
 -- ---- the walk ends: the highest of the planes at p is that of a triple with the corner p
 
-nat_compare : (k l : ℕ) → (k ≤ l) ⊎ (l ≤ k)
-nat_compare zero l = inl (omega arith)
-nat_compare (suc k) zero = inr (omega arith)
-nat_compare (suc k) (suc l) = ⊎_elim (λ p. inl (omega (arith, p))) (λ p. inr (omega (arith, p))) (nat_compare k l)
-
-compare : (y z : ℤ) → (y ≤ℤ z) ⊎ (z ≤ℤ y)
-compare (pos k) (pos l) = ⊎_elim (λ p. inl (omega (arith, ints, p))) (λ p. inr (omega (arith, ints, p))) (nat_compare k l)
-compare (pos k) (negsuc l) = inr (omega (arith, ints))
-compare (negsuc k) (pos l) = inl (omega (arith, ints))
-compare (negsuc k) (negsuc l) = ⊎_elim (λ p. inr (omega (arith, ints, p))) (λ p. inl (omega (arith, ints, p))) (nat_compare k l)
-
 highest : (f : Triangle → ℤ) (t : Triangle) (ts : List Triangle) → (m : Triangle) × Contains (t ∷ ts) m × ((u : Triangle) → Contains (t ∷ ts) u → f u ≤ℤ f m)
 highest f t [] = (t, Contains-here t t [] refl, λ u c. only u (Contains-cases u t [] c))
   where
@@ -249,7 +238,7 @@ highest f t (s ∷ ts) = by (highest f s ts)
 
     by : (m : Triangle) × Contains (s ∷ ts) m × ((u : Triangle) → Contains (s ∷ ts) u → f u ≤ℤ f m)
         → (m : Triangle) × Contains (t ∷ s ∷ ts) m × ((u : Triangle) → Contains (t ∷ s ∷ ts) u → f u ≤ℤ f m)
-    by (m, c, most) = pick (compare (f t) (f m))
+    by (m, c, most) = pick (less_or_least (f t) (f m))
       where
         first : f t ≤ℤ f m → (u : Triangle) → (u ≡ t) ⊎ Contains (s ∷ ts) u → f u ≤ℤ f m
         first l u (inl e) = let P = λ (k : Triangle). f k ≤ℤ f m in subst P (sym e) l

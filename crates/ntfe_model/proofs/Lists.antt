@@ -7,6 +7,7 @@ use Rattle.std.proofs.lemmas.List.FromFn.{map-range_with_len_more}
 use Rattle.std.proofs.lemmas.List.Kept.{AllPairs-cons}
 use Rattle.std.specs.List.{list_any, range_with_len}
 use Rattle.std.specs.Prelude.{AllPairs, Contains, Any}
+use Rattle.ntfe_model.specs.Lists.{IsListing}
 use Rattle.ntfe_model.proofs.Listings.{Contains-here, Contains-there, Contains-cases, Contains-none, AllPairs-head, AllPairs-tail, All-from_contains}
 
 pub Contains-map : {X Y : Type 0} (f : X → Y) (xs : List X) (x : X) → Contains xs x → Contains (map f xs) (f x)
@@ -24,6 +25,22 @@ Contains-from_map {X} {Y} f (x ∷ xs) y h = by (Contains-cases y (f x) (map f x
     by : (y ≡ f x) ⊎ Contains (map f xs) y → (Contains (map f xs) y → (z : X) × Contains xs z × (y ≡ f z)) → (z : X) × Contains (x ∷ xs) z × (y ≡ f z)
     by (inl e) rest = (x, Contains-here x x xs refl, e)
     by (inr p) rest = let r = rest p in (r.0, Contains-there r.0 x xs r.1, r.2)
+
+-- the images of a listing, where the map keeps the order
+pub listing_map : {X Y : Type 0} (R : X → X → Type 0) (S : Y → Y → Type 0) (P : X → Type 0) (f : X → Y) → ((x z : X) → R x z → S (f x) (f z)) → (xs : List X) → IsListing R P xs
+    → IsListing S (λ y. (x : X) × P x × (y ≡ f x)) (map f xs)
+listing_map {X} {Y} R S P f keeps xs l = record {
+  ordered = ordered xs l.ordered;
+  sound = All-from_contains (λ y. (x : X) × P x × (y ≡ f x)) (map f xs) (λ y c. (let r = Contains-from_map f xs y c in (r.0, All-contains P xs r.0 l.sound r.1, r.2)));
+  complete = λ y p. subst (Contains (map f xs)) (sym p.2) (Contains-map f xs p.0 (l.complete p.0 p.1));
+}
+  where
+    ordered : (zs : List X) → AllPairs R zs → AllPairs S (map f zs)
+    ordered [] o = λ i j d k m. absurd (omega arith)
+    ordered (z ∷ zs) o =
+        AllPairs-cons S (f z) (map f zs)
+        (All-from_contains (S (f z)) (map f zs) (λ y c. (let r = Contains-from_map f zs y c in subst (S (f z)) (sym r.2) (keeps z r.0 (All-contains (R z) zs r.0 (AllPairs-head R z zs o) r.1)))))
+        (ordered zs (AllPairs-tail R z zs o))
 
 pub any_here : (P : ℕ → Type 0) (ks : List ℕ) (i : ℕ) → i < length ks → P (get_or ks i 0) → Any P ks
 any_here P ks i l p = let c = Contains-get_or ks i 0 l in (c.0, get_or ks i 0, c.1, c.2, p)

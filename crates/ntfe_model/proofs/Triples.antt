@@ -35,6 +35,26 @@ decide_vector a b = by (decide_integer a.x1 b.x1) (decide_integer a.x2 b.x2) (de
     by (inl p) (inl q) (inr n) s = inr (λ e. n (ap (λ v. v.x3) e))
     by (inl p) (inl q) (inl r) (inr n) = inr (λ e. n (ap (λ v. v.x4) e))
 
+-- whether a number is in a list
+pub decide_listed : (ks : List ℕ) (p : ℕ) → Decided (Contains ks p)
+decide_listed [] p = inr (λ c. Contains-none p c)
+decide_listed (k ∷ ks) p = by (decide_number p k) (decide_listed ks p)
+  where
+    by : Decided (p ≡ k) → Decided (Contains ks p) → Decided (Contains (k ∷ ks) p)
+    by (inl e) d = inl (Contains-here p k ks e)
+    by (inr n) (inl c) = inl (Contains-there p k ks c)
+    by (inr n) (inr m) = inr (λ c. ⊎_elim n m (Contains-cases p k ks c))
+
+-- what is decided of each entry is decided of all
+pub decide_each : {A : Type 0} (P : A → Type 0) (xs : List A) → ((x : A) → Contains xs x → Decided (P x)) → Decided ((x : A) → Contains xs x → P x)
+decide_each P [] decide = inl (λ x c. Contains-none x c)
+decide_each {A} P (z ∷ zs) decide = by (decide z (Contains-here z z zs refl)) (decide_each P zs (λ x c. decide x (Contains-there x z zs c)))
+  where
+    by : Decided (P z) → Decided ((x : A) → Contains zs x → P x) → Decided ((x : A) → Contains (z ∷ zs) x → P x)
+    by (inl p) (inl q) = inl (λ x c. ⊎_elim (λ e. subst P (sym e) p) (q x) (Contains-cases x z zs c))
+    by (inl p) (inr n) = inr (λ f. n (λ x c. f x (Contains-there x z zs c)))
+    by (inr n) q = inr (λ f. n (f z (Contains-here z z zs refl)))
+
 pub decide_not : {A : Type 0} → Decided A → Decided (A → ⊥)
 decide_not (inl a) = inr (λ n. n a)
 decide_not (inr n) = inl n

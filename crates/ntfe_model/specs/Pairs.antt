@@ -1,6 +1,6 @@
 -- The two lists of a pair.
-use Rattle.std.specs.Prelude.{ℕ, ◌-◌, ◌≤◌, pos, negsuc, ◌≤ℤ◌, List, length, slice_index_or, All}
-use Rattle.ntfe_nums.specs.Vectors.{Vector, origin}
+use Rattle.std.specs.Prelude.{ℕ, ◌-◌, ◌≤◌, ℤ, pos, negsuc, ◌≤ℤ◌, List, length, map, slice_index_or, All}
+use Rattle.ntfe_nums.specs.Vectors.{Vector, vector, origin}
 
 pub record VertexLists : Type 0 where
   pub vertices : List Vector
@@ -29,3 +29,7 @@ pub record IsBoundedList (vs : List Vector) : Type 0 where
 pub record IsBounded (p : VertexLists) : Type 0 where
   pub vertices : IsBoundedList p.vertices
   pub dual : IsBoundedList p.dual
+
+-- two lists of rows, each row the coordinates of a vector
+abbrev pub vertex_lists : List (List ℤ) → List (List ℤ) → VertexLists
+vertex_lists vertices dual = record { vertices = map vector vertices; dual = map vector dual }

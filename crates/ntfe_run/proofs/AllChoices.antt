@@ -11,7 +11,7 @@ use Rattle.ntfe_model.specs.Choices.{IsChoice}
 use Rattle.ntfe_model.proofs.Listings.{Contains-here, Contains-cases, Contains-none, All-from_contains, listing_groups, listing_range, listing_same}
 use Rattle.ntfe_model.proofs.Triples.{Decided, decide_number, decide_both}
 use Rattle.fine_stream.proofs.Searches.{head_below, same_below}
-use Rattle.ntfe_run.proofs.AllItems.{listing_map}
+use Rattle.ntfe_model.proofs.Lists.{listing_map}
 use Rattle.ntfe_run.proofs.CountedItems.{IsCountOf, faces_counted}
 use Rattle.star_builder.proofs.Decisions.{decide_less}
 

@@ -13,11 +13,11 @@ use Rattle.ntfe_model.specs.declared.triangulation.Triangulation.{Triangulation}
 use Rattle.ntfe_model.proofs.GeometryPoints.{numbers_of, numbers_rise}
 use Rattle.ntfe_model.proofs.Items.{number_fixed}
 use Rattle.ntfe_model.proofs.Listings.{listing_same}
-use Rattle.ntfe_model.proofs.Orders.{below_once}
+use Rattle.ntfe_model.proofs.Orders.{below_once, WordBelow}
 use Rattle.ntfe_model.proofs.Triples.{Decided}
 use Rattle.fine_stream.specs.Paths.{Completes}
 use Rattle.fine_stream.proofs.Waiting.{triangulation_completes, completes_triangulation}
-use Rattle.ntfe_run.proofs.AllItems.{Below, steps_all}
+use Rattle.fine_stream.proofs.AllItems.{steps_all}
 use Rattle.ntfe_run.proofs.FaceDecisions.{some_unit, steps_listed}
 use Rattle.star_builder.proofs.Decisions.{decide_less}
 use Rattle.star_builder.proofs.FaceLevels.{face_apart}
@@ -75,12 +75,12 @@ module _ {X : Type 0} (before : X → X → Type 0) (once : (a b : X) → before
 
 -- ---- of a list of all triangulations
 
-module _ (h : Patch) (xs : List Triangulation) (l : IsListing Below (IsTriangulation h) xs) where
+module _ (h : Patch) (xs : List Triangulation) (l : IsListing WordBelow (IsTriangulation h) xs) where
   item_at : (n : ℕ) (d : Triangulation) → n < length xs → IsItem h n (get_or xs n d)
   item_at n d inside = record {
     is = l.sound n d inside;
     lesser = take n xs;
-    listing = listing_before Below (λ y z. below_once y.word z.word) (IsTriangulation h) xs l n d inside;
+    listing = listing_before WordBelow (λ y z. below_once y.word z.word) (IsTriangulation h) xs l n d inside;
     count = length-take-le n xs (omega (arith, inside));
   }
 
@@ -94,12 +94,12 @@ module _ (h : Patch) (xs : List Triangulation) (l : IsListing Below (IsTriangula
           by (i, k, e) = let same = number_fixed h i n x (subst (IsItem h i) e (item_at i x k)) item in omega (arith, k, same)
 
 module _ (h : Patch) (apart : AreApart h) (rising : AllPairs (λ j k. j < k) (spot_numbers h)) (a b c : ℕ) (known : IsUnit h a b c) where
-  triangulations_listed : (xs : List Triangulation) × IsListing Below (IsTriangulation h) xs
+  triangulations_listed : (xs : List Triangulation) × IsListing WordBelow (IsTriangulation h) xs
   triangulations_listed =
       let steps = steps_listed h apart in
       let all = steps_all h apart rising a b c known steps.0 steps.1 in (
         all.0,
-        listing_same Below (λ y. Completes h [] steps.0 y.word y.triangles) (IsTriangulation h) all.0 all.1 (λ y k. completes_triangulation h apart steps.0 y steps.1 k)
+        listing_same WordBelow (λ y. Completes h [] steps.0 y.word y.triangles) (IsTriangulation h) all.0 all.1 (λ y k. completes_triangulation h apart steps.0 y steps.1 k)
             (λ y p. triangulation_completes h steps.0 y steps.1 p),
       )
 

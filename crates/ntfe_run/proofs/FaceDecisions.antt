@@ -9,16 +9,13 @@ use Rattle.ntfe_model.specs.Charts.{Patch, place, turn, reached, spot_numbers, I
 use Rattle.ntfe_model.proofs.Listings.{Contains-flat_map, All-from_contains}
 use Rattle.ntfe_model.proofs.Lists.{Contains-map}
 use Rattle.ntfe_model.proofs.PlaneNumbers.{sign_positive}
-use Rattle.ntfe_model.proofs.Triples.{Decided, decide_number, decide_vector, decide_not, decide_both, decide_all3}
+use Rattle.ntfe_model.proofs.Triples.{Decided, decide_number, decide_integer, decide_vector, decide_listed, decide_each, decide_not, decide_both, decide_all3}
 use Rattle.ntfe_model.proofs.UnitTriples.{area_of, unit_area}
 use Rattle.face_chart.specs.Units.{IsReached}
 use Rattle.face_chart.proofs.FineSets.{picked}
 use Rattle.face_chart.proofs.SegmentLemmas.{on_segment, share_low, share_high, share_at}
 use Rattle.face_chart.proofs.UnitLemmas.{second_quotient, third_quotient}
-use Rattle.ntfe_run.proofs.PartDecisions.{decide_each}
 use Rattle.star_builder.proofs.Decisions.{decide_all_below, decide_given}
-use Rattle.star_builder.proofs.FaceSteps.{decide_listed}
-use Rattle.star_builder.proofs.FacetPoints.{decide_equal}
 use Rattle.star_builder.proofs.Planar.{decide_positive}
 use Rattle.star_builder.proofs.Searches.{some_or_all}
 
@@ -40,7 +37,7 @@ decide_on_segment a b x apart = by (order (pos 0) share) (order share whole) (de
     Shared k = whole *ℤ get_or (numbers (difference x a)) k (pos 0) ≡ share *ℤ get_or (numbers (difference b a)) k (pos 0)
 
     shared : (k : ℕ) → Decided (Shared k)
-    shared k = decide_equal (whole *ℤ get_or (numbers (difference x a)) k (pos 0)) (share *ℤ get_or (numbers (difference b a)) k (pos 0))
+    shared k = decide_integer (whole *ℤ get_or (numbers (difference x a)) k (pos 0)) (share *ℤ get_or (numbers (difference b a)) k (pos 0))
 
     by : (pos 0 ≤ℤ share) ⊎ (share <ℤ pos 0) → (share ≤ℤ whole) ⊎ (whole <ℤ share) → Decided ((k : ℕ) → k < 4 → Shared k) → Decided (IsOnSegment a b x)
     by (inl h) (inl k) (inl e) = inl (on_segment a b x whole share refl refl apart h k e)
@@ -111,7 +108,7 @@ module _ (h : Patch) where
         by (inr n) = inr (λ s. n s.points)
         by (inl o) =
             ⊎_elim (λ k. inl (record { points = o; outer = k.0; next = k.1 })) (λ n. inr (λ s. n (s.outer, s.next)))
-            (decide_both (decide_points (λ p. turn h a b p ≢ negsuc 0) (λ p. decide_not (decide_equal (turn h a b p) (negsuc 0))))
+            (decide_both (decide_points (λ p. turn h a b p ≢ negsuc 0) (λ p. decide_not (decide_integer (turn h a b p) (negsuc 0))))
             (decide_points (λ p. p ≢ a → p ≢ b → ¬ (IsOnSegment (place h a) (place h b) (place h p))) (decide_between a b o.0 o.1 o.2)))
 
     abbrev pairs_from : ℕ → List (ℕ × ℕ)

@@ -22,7 +22,7 @@ use Rattle.ntfe_run.specs.Commands.{form_of_options, listed_with, IsListText}
 use Rattle.ntfe_run.specs.Earlier.{layout}
 use Rattle.ntfe_run.proofs.AllBlocks.{BlockBelow, block_once, blocks_fixed, text_fixed}
 use Rattle.ntfe_run.proofs.Beginnings.{list_text_is}
-use Rattle.steal_workers.proofs.NextBlocks.{after_chain}
+use Rattle.ntfe_model.proofs.Orders.{after_chain}
 
 module _ (g : Shape) (form : Form) where
   -- ---- the blocks after the first ones

@@ -9,9 +9,7 @@ pub mod ListEnds
 pub mod DemoEnds
 pub mod NumberedLines
 pub mod Headline
-pub mod PartDecisions
 pub mod FaceDecisions
-pub mod AllItems
 pub mod CountedItems
 pub mod AllChoices
 pub mod AllBlocks

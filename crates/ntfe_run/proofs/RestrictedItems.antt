@@ -9,7 +9,7 @@ use Rattle.ntfe_model.specs.Stars.{IsFrst, Leaves}
 use Rattle.ntfe_model.specs.declared.triangulation.Triangulation.{Triangulation}
 use Rattle.ntfe_model.proofs.GeometryPoints.{numbers_of, numbers_rise}
 use Rattle.face_chart.proofs.FineSets.{word_exists}
-use Rattle.ntfe_run.proofs.AllItems.{item_exists}
+use Rattle.fine_stream.proofs.AllItems.{item_exists}
 use Rattle.star_builder.proofs.FaceLevels.{face_apart}
 use Rattle.star_builder.proofs.Inducing.{some_triple}
 use Rattle.star_builder.proofs.LeftTriples.{left_triples, left_fine, fine_leaves}

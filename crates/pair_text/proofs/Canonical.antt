@@ -18,6 +18,7 @@ use Rattle.ntfe_model.specs.Pairs.{VertexLists, IsSmall, IsBoundedList, IsBounde
 use Rattle.ntfe_model.specs.RunText.{vector_line, list_lines, pair_lines, spaced}
 use Rattle.ntfe_model.specs.PairText.{Line, lines, fields, is_blank, is_filled, is_skipped, unskipped, magnitude, number, IsCountLine, IsVectorLine, AreListLines, IsPairText}
 use Rattle.pair_text.proofs.Caps.{numbers-of}
+use Rattle.pair_text.proofs.Splitting.{is_filled-from}
 use Rattle.pair_text.proofs.Faults.{list_lines as list_lines_are}
 
 -- ---- digits
@@ -25,11 +26,8 @@ use Rattle.pair_text.proofs.Faults.{list_lines as list_lines_are}
 pub own : IsNumeralModel (λ ds. all_ascii_digits ds ≡ true) (digits_value 10)
 own = numerals_by_value (λ ds. all_ascii_digits ds ≡ true) tells_all_ascii_digits
 
-filled : (xs : List ℕ) → 0 < length xs → is_filled xs ≡ true
-filled xs h = ap not (ne_eqb (length xs) 0 (λ e. absurd (omega arith)))
-
 magnitude_digits : (ds : List ℕ) → all_ascii_digits ds ≡ true → 0 < length ds → magnitude ds ≡ Some (digits_value 10 ds)
-magnitude_digits ds h l = rw (filled ds l, h) refl
+magnitude_digits ds h l = rw (is_filled-from ds l, h) refl
 
 number_digits : (ds : List ℕ) → all_ascii_digits ds ≡ true → 0 < length ds → number ds ≡ Some (pos (digits_value 10 ds))
 number_digits [] h l = absurd (omega arith)
@@ -77,10 +75,10 @@ no_blanks (x ∷ xs) h zero d l = or_from _ _ (ne_eqb x 32 (λ e. absurd (omega 
 no_blanks (x ∷ xs) h (suc k) d l = no_blanks xs h.1 k d (omega arith)
 
 fields_last : (f : List ℕ) → IsClean f → fields f ≡ f ∷ []
-fields_last f h = ap (filter is_filled) (slice_split_none is_blank f (no_blanks f h.above)) ∙ rw (filled f h.some) refl
+fields_last f h = ap (filter is_filled) (slice_split_none is_blank f (no_blanks f h.above)) ∙ rw (is_filled-from f h.some) refl
 
 fields_more : (f rest : List ℕ) → IsClean f → fields (f ++ 32 ∷ rest) ≡ f ∷ fields rest
-fields_more f rest h = ap (filter is_filled) (slice_split_at is_blank f 32 rest (no_blanks f h.above) refl) ∙ rw (filled f h.some) refl
+fields_more f rest h = ap (filter is_filled) (slice_split_at is_blank f 32 rest (no_blanks f h.above) refl) ∙ rw (is_filled-from f h.some) refl
 
 not_comment : (f : List ℕ) (more : List (List ℕ)) → IsClean f → is_skipped (f ∷ more) ≡ false
 not_comment [] more h = absurd (let l : 0 < 0 = h.some in omega arith)

@@ -16,7 +16,7 @@ use Rattle.ntfe_model.specs.Charts.{patch_at, place, turn, spot_numbers, IsOf, I
 use Rattle.ntfe_model.proofs.GeometryPoints.{point_within, point_place}
 use Rattle.ntfe_model.proofs.Listings.{Contains-here, Contains-there, Contains-cases, Contains-none}
 use Rattle.ntfe_model.proofs.PlaneNumbers.{sign_negative}
-use Rattle.ntfe_model.proofs.Triples.{Decided, decide_number}
+use Rattle.ntfe_model.proofs.Triples.{Decided, decide_listed}
 use Rattle.ntfe_model.proofs.UnitTriples.{area_of}
 use Rattle.star_builder.proofs.FourWeights.{IsMixOf, mixed_sum, cancel_other}
 use Rattle.star_builder.proofs.EmptyTriples.{empty_triple}
@@ -75,16 +75,6 @@ wedge_two k l1 l2 ix iy jx jy ax ay bx by px py e ex ey =
     minus (times (minus (var 4) (var 2)) (minus (mixE 7) (times all (var 3)))) (times (minus (var 5) (var 3)) (minus (mixE 6) (times all (var 2)))))
     (let w = λ (i : ℕ). minus (times (minus (var 4) (var 2)) (minus (var (suc i)) (var 3))) (times (minus (var 5) (var 3)) (minus (var i) (var 2))) in
     plus (times (var 0) (w 6)) (times (var 1) (w 8))) refl
-
--- whether a number is in a list
-pub decide_listed : (ks : List ℕ) (p : ℕ) → Decided (Contains ks p)
-decide_listed [] p = inr (λ c. Contains-none p c)
-decide_listed (k ∷ ks) p = by (decide_number p k) (decide_listed ks p)
-  where
-    by : Decided (p ≡ k) → Decided (Contains ks p) → Decided (Contains (k ∷ ks) p)
-    by (inl e) d = inl (Contains-here p k ks e)
-    by (inr n) (inl c) = inl (Contains-there p k ks c)
-    by (inr n) (inr m) = inr (λ c. ⊎_elim n m (Contains-cases p k ks c))
 
 module _ (g : Shape) (s : IsShape g) (f : ℕ) (within : f < length g.faces) (v : ℕ → ℤ) (used : (p : ℕ) → IsOf (patch_at g f) p → IsUsed g.points v p) where
   abbrev On : ℕ → Type 0

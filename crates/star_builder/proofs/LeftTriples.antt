@@ -16,12 +16,11 @@ use Rattle.ntfe_model.specs.declared.triangulation.Triangulation.{Triangulation}
 use Rattle.ntfe_model.proofs.FoldPlanes.{at_corner}
 use Rattle.ntfe_model.proofs.Listings.{Contains-here, Contains-there, Contains-cases, Contains-none, Contains-flat_map}
 use Rattle.ntfe_model.proofs.PlaneNumbers.{area_swap, area_turn, sign_positive}
-use Rattle.ntfe_model.proofs.Triples.{Decided, decide_both, decide_all3, same_self, corner_same}
+use Rattle.ntfe_model.proofs.Triples.{Decided, decide_listed, decide_both, decide_all3, same_self, corner_same}
 use Rattle.ntfe_model.proofs.UnitTriples.{area_of}
 use Rattle.star_builder.proofs.BeyondMembers.{star_member}
 use Rattle.star_builder.proofs.FaceLevels.{face_area}
 use Rattle.star_builder.proofs.FacetPoints.{decide_equal}
-use Rattle.star_builder.proofs.FaceSteps.{decide_listed}
 use Rattle.star_builder.proofs.FineRestrictions.{restriction_fine}
 use Rattle.star_builder.proofs.Inducing.{some_triple}
 use Rattle.star_builder.proofs.LowSimplices.{IsLow, member_low}

@@ -32,7 +32,7 @@ use Rattle.steal_workers.specs.Shared.{IsKeyed}
 use Rattle.steal_workers.specs.Boards.{IsLiveRecord, IsUnderWay, IsAbreast, IsStartOrClass, IsPlace}
 use Rattle.steal_workers.proofs.HandedOut.{new_abreast}
 use Rattle.steal_workers.proofs.HeightsExtend.{head_over}
-use Rattle.steal_workers.proofs.NextBlocks.{after_chain}
+use Rattle.ntfe_model.proofs.Orders.{after_chain}
 
 -- ---- the heads of a class
 

@@ -16,11 +16,12 @@ use Rattle.choice_board.specs.declared.verdict.Verdict.TheVariants.{End, Pruned,
 use Rattle.choice_board.specs.declared.record.Record.{Record}
 use Rattle.choice_board.specs.declared.record.Found.TheVariants.{Class as FoundClass, Wide as FoundWide, Far as FoundFar}
 use Rattle.choice_board.proofs.PlaceLemmas.{stem_length, key_parts, raised_length, below_raised, below_first}
+use Rattle.ntfe_model.proofs.Examples.{first_live}
 use Rattle.ntfe_model.proofs.Lists.{Contains-from_map}
+use Rattle.ntfe_model.proofs.Orders.{after_chain}
 use Rattle.steal_workers.specs.Listings.{Listed}
 use Rattle.steal_workers.specs.Boards.{IsLiveRecord}
 use Rattle.steal_workers.specs.Probing.{IsProbed}
-use Rattle.steal_workers.proofs.NextBlocks.{after_chain}
 
 -- ---- what is opened
 
@@ -114,15 +115,12 @@ past_live g width a i l after = record {
         let n : length (take k a) ≡ k = length-take-le k a (let w = past_within a i k l m in omega (arith, w)) in
         ap (λ h. take (length h) a) f ∙ ap (λ j. take j a) n ∙ sym f
 
-zero_live : (g : Shape) (width : ℕ) → IsLive g None width (0 ∷ [])
-zero_live g width = record { after = tt; open_stems = λ k p m. absurd (omega (arith, p, m)) }
-
 pub start_live : (g : Shape) (start : Option (List ℕ)) (width : ℕ) → All (IsAfter start) (start_keys (length g.faces) start) → All (IsLive g start width) (start_keys (length g.faces) start)
 start_live g None width above = by (nat_eq (length g.faces) 0)
   where
     by : (b : Bool) → All (IsLive g None width) (cond b [] ((0 ∷ []) ∷ []))
     by true = All-nil (IsLive g None width)
-    by false = All-cons (IsLive g None width) (0 ∷ []) [] (zero_live g width) (All-nil (IsLive g None width))
+    by false = All-cons (IsLive g None width) (0 ∷ []) [] (first_live g width) (All-nil (IsLive g None width))
 start_live g (Some a) width above = All-from_contains (IsLive g (Some a) width) keys one
   where
     keys : List (List ℕ)

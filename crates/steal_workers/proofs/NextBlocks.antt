@@ -6,7 +6,7 @@ use Rattle.ntfe_model.specs.Lists.{IsListing, IsBelow}
 use Rattle.ntfe_model.specs.Keys.{IsAfter, IsClass}
 use Rattle.ntfe_model.specs.RunText.{Block, IsBlockOf, AreBlocks}
 use Rattle.ntfe_model.proofs.Listings.{Contains-here, Contains-there, listing_append, listing_same, listing_nil}
-use Rattle.ntfe_model.proofs.Orders.{below_chain, below_once, three_ways}
+use Rattle.ntfe_model.proofs.Orders.{after_chain, below_chain, below_once, three_ways}
 use Rattle.steal_workers.specs.Listings.{Listed, IsUpTo, AreBlocksTo, AreBlocksBelow, last_choice, ComesNext, NoneIsLeft}
 use Rattle.steal_workers.specs.Blocks.{IsClassBlock}
 use Rattle.steal_workers.proofs.ClassBlocks.{block_fixed, class_block}
@@ -26,10 +26,6 @@ pub up_to_below : (last : Option (List ℕ)) (c k : List ℕ) → IsUpTo last c 
 up_to_below None c k u a = absurd u
 up_to_below (Some l) c k (inl e) a = subst (λ (m : List ℕ). IsBelow m k) (sym e) a
 up_to_below (Some l) c k (inr b) a = below_chain c l k b a
-
-pub after_chain : (start : Option (List ℕ)) (c k : List ℕ) → IsAfter start c → IsBelow c k → IsAfter start k
-after_chain None c k a b = tt
-after_chain (Some s) c k a b = below_chain s c k a b
 
 -- what is up to the start is not after it
 not_both : (start : Option (List ℕ)) (c : List ℕ) → IsUpTo start c → IsAfter start c → ⊥

@@ -1,50 +1,15 @@
 //! Worked pairs.
-ghost use Rattle.std.specs.Prelude.{IfSome, IfOk};
-ghost use Rattle.ntfe_model.specs.Pairs.{IsSmall, IsBoundedList};
 
 use crate::faces;
 use lattice_points::points;
-use ntfe_model::{Face, List, Pair, Vec4};
+use ntfe_model::{Face, List, Pair};
 use std::alloc::Global;
 use std::test::Fail;
 
-fn small_vector(row: &[i64; 4]) -> Option<Vec4>
-    ensures { IfSome result IsSmall }
-{
-    let [a, b, c, d] = *row;
-    if a < -1023 || a > 1023 || b < -1023 || b > 1023 {
-        return None;
-    }
-    if c < -1023 || c > 1023 || d < -1023 || d > 1023 {
-        return None;
-    }
-    Some(Vec4::new([a, b, c, d]))
-}
-
-fn bounded_list(alloc: Global, rows: &[[i64; 4]]) -> Result<Vec<Vec4>, Fail>
-    ensures { IfOk result (λ v. IsBoundedList v.items) }
-{
-    let mut list = Vec::new(alloc);
-    for row in rows {
-        let Some(vector) = small_vector(row) else {
-            return Err(Fail::new("a coordinate"));
-        };
-        list.push(vector)?;
-    }
-    if list.len() < 5 || list.len() > 64 {
-        return Err(Fail::new("the entries"));
-    }
-    Ok(list)
-}
-
-fn pair_of(alloc: Global, vertices: &[[i64; 4]], dual: &[[i64; 4]]) -> Result<Pair, Fail> {
-    let vertices = bounded_list(alloc, vertices)?;
-    let dual = bounded_list(alloc, dual)?;
-    Ok(Pair::new(vertices, dual))
-}
-
 fn faces_of(alloc: Global, vertices: &[[i64; 4]], dual: &[[i64; 4]]) -> Result<List<Face>, Fail> {
-    let pair = pair_of(alloc, vertices, dual)?;
+    let Ok(pair) = Pair::try_new(alloc, vertices, dual) else {
+        return Err(Fail::new("a pair"));
+    };
     let list = points(alloc, &pair)?;
     Ok(faces(alloc, &pair, list.as_slice())?)
 }

@@ -10,49 +10,21 @@ use Rattle.std.specs.declared.cmp.Ordering.TheVariants.{Less, Equal, Greater}
 use Rattle.std.specs.Cmp.Lexicographic.{slice_cmp}
 use Rattle.std.proofs.lemmas.List.Elements.{All-contains, All-nil}
 use Rattle.std.proofs.lemmas.List.Kept.{AllPairs-cons}
-use Rattle.ntfe_model.proofs.Lists.{Contains-map}
+use Rattle.ntfe_model.proofs.Lists.{listing_map}
 use Rattle.ntfe_model.specs.Lists.{IsListing, IsBelow}
 use Rattle.ntfe_model.specs.Charts.{Patch, spot_numbers, IsOf, IsUnit, IsStep, AreSteps, AreApart}
 use Rattle.ntfe_model.specs.Words.{written, IsTriangulation, IsItem}
 use Rattle.ntfe_model.specs.declared.triangle.Triangle.{Triangle}
 use Rattle.ntfe_model.specs.declared.triangulation.Triangulation.{Triangulation}
 use Rattle.ntfe_model.proofs.Listings.{Contains-here, Contains-there, Contains-cases, Contains-none, AllPairs-head, AllPairs-tail, All-from_contains, listing_nil, listing_same, listing_filter, listing_groups}
-use Rattle.ntfe_model.proofs.Triples.{Decided}
+use Rattle.ntfe_model.proofs.Orders.{WordBelow}
+use Rattle.ntfe_model.proofs.Triples.{Decided, decide_listed}
 use Rattle.fine_stream.specs.Paths.{AreOf, IsPart, Completes}
 use Rattle.fine_stream.proofs.Bound.{part_bound}
 use Rattle.fine_stream.proofs.Parts.{part_left}
 use Rattle.fine_stream.proofs.Searches.{closed, closed_of, completes_fits, completes_more, completes_rest, first_empty, fits_unit, head_below, same_below, written_of}
 use Rattle.fine_stream.proofs.Waiting.{triangulation_completes, completes_triangulation}
-use Rattle.ntfe_run.proofs.PartDecisions.{decide_fits}
-use Rattle.star_builder.proofs.FaceSteps.{decide_listed}
-
--- ---- listings of images
-
-from_map : {X Y : Type 0} (f : X → Y) (xs : List X) (y : Y) → Contains (map f xs) y → (x : X) × Contains xs x × (y ≡ f x)
-from_map f [] y c = Contains-none y c
-from_map {X} {Y} f (z ∷ zs) y c = by (Contains-cases y (f z) (map f zs) c) (from_map f zs y)
-  where
-    by : (y ≡ f z) ⊎ Contains (map f zs) y → (Contains (map f zs) y → (x : X) × Contains zs x × (y ≡ f x)) → (x : X) × Contains (z ∷ zs) x × (y ≡ f x)
-    by (inl e) rest = (z, Contains-here z z zs refl, e)
-    by (inr d) rest = (let r = rest d in (r.0, Contains-there r.0 z zs r.1, r.2))
-
-pub listing_map : {X Y : Type 0} (R : X → X → Type 0) (S : Y → Y → Type 0) (P : X → Type 0) (f : X → Y) → ((x z : X) → R x z → S (f x) (f z)) → (xs : List X) → IsListing R P xs
-    → IsListing S (λ y. (x : X) × P x × (y ≡ f x)) (map f xs)
-listing_map {X} {Y} R S P f keeps xs l = record {
-  ordered = ordered xs l.ordered;
-  sound = All-from_contains (λ y. (x : X) × P x × (y ≡ f x)) (map f xs) (λ y c. (let r = from_map f xs y c in (r.0, All-contains P xs r.0 l.sound r.1, r.2)));
-  complete = λ y p. subst (Contains (map f xs)) (sym p.2) (Contains-map f xs p.0 (l.complete p.0 p.1));
-}
-  where
-    ordered : (zs : List X) → AllPairs R zs → AllPairs S (map f zs)
-    ordered [] o = λ i j d k m. absurd (omega arith)
-    ordered (z ∷ zs) o =
-        AllPairs-cons S (f z) (map f zs)
-        (All-from_contains (S (f z)) (map f zs) (λ y c. (let r = from_map f zs y c in subst (S (f z)) (sym r.2) (keeps z r.0 (All-contains (R z) zs r.0 (AllPairs-head R z zs o) r.1)))))
-        (ordered zs (AllPairs-tail R z zs o))
-
-abbrev pub Below : Triangulation → Triangulation → Type 0
-Below y z = IsBelow y.word z.word
+use Rattle.fine_stream.proofs.PartDecisions.{decide_fits}
 
 -- with one number and its triple in front
 abbrev extended : ℕ → Triangle → Triangulation → Triangulation
@@ -61,7 +33,7 @@ extended c t v = record { word = c ∷ v.word; triangles = t ∷ v.triangles }
 module _ (h : Patch) (apart : AreApart h) (rising : AllPairs (λ j k. j < k) (spot_numbers h)) (a b c : ℕ) (known : IsUnit h a b c) where
   -- all words that lead on from here to the end, with their triples
   abbrev pub AreListed : List Triangle → List (ℕ × ℕ) → Type 0
-  AreListed ts steps = (xs : List Triangulation) × IsListing Below (λ y. Completes h ts steps y.word y.triangles) xs
+  AreListed ts steps = (xs : List Triangulation) × IsListing WordBelow (λ y. Completes h ts steps y.word y.triangles) xs
 
   numbers_listing : IsListing (λ j k. j < k) (IsOf h) (spot_numbers h)
   numbers_listing = record { ordered = rising; sound = All-from_contains (IsOf h) (spot_numbers h) (λ k i. i); complete = λ k i. i }
@@ -99,24 +71,24 @@ module _ (h : Patch) (apart : AreApart h) (rising : AllPairs (λ j k. j < k) (sp
     ends_of : IsOf h x × IsOf h y
     ends_of = All-contains (λ e. IsOf h e.0 × IsOf h e.1) ((x, y) ∷ fs) (x, y) of (Contains-here (x, y) (x, y) fs refl)
 
-    group : (d : ℕ) → (xs : List Triangulation) × (IsOf h d → IsListing Below (Begins d) xs)
+    group : (d : ℕ) → (xs : List Triangulation) × (IsOf h d → IsListing WordBelow (Begins d) xs)
     group d = by (decide_listed (spot_numbers h) d)
       where
-        by : Decided (IsOf h d) → (xs : List Triangulation) × (IsOf h d → IsListing Below (Begins d) xs)
+        by : Decided (IsOf h d) → (xs : List Triangulation) × (IsOf h d → IsListing WordBelow (Begins d) xs)
         by (inr n) = ([], λ o. absurd (n o))
         by (inl o) = fit (decide_fits h apart a b c known ts part (written x y d) (written_of (IsOf h) x y d ends_of.0 ends_of.1 o))
           where
-            fit : Decided (IsPart h (ts ++ written x y d ∷ [])) → (xs : List Triangulation) × (IsOf h d → IsListing Below (Begins d) xs)
+            fit : Decided (IsPart h (ts ++ written x y d ∷ [])) → (xs : List Triangulation) × (IsOf h d → IsListing WordBelow (Begins d) xs)
             fit (inl p) =
                 (let r = go d o p in (
                   map (extended d (written x y d)) r.0,
-                  λ i. listing_map Below Below (λ v. Completes h (ts ++ written x y d ∷ []) (closed x y d fs) v.word v.triangles) (extended d (written x y d)) (λ v z l. same_below d v.word z.word l) r.0 r.1,
+                  λ i. listing_map WordBelow WordBelow (λ v. Completes h (ts ++ written x y d ∷ []) (closed x y d fs) v.word v.triangles) (extended d (written x y d)) (λ v z l. same_below d v.word z.word l) r.0 r.1,
                 ))
-            fit (inr n) = ([], λ i. listing_nil Below (Begins d) (λ z q. n (part_left h (ts ++ written x y d ∷ []) q.0.triangles q.1.part)))
+            fit (inr n) = ([], λ i. listing_nil WordBelow (Begins d) (λ z q. n (part_left h (ts ++ written x y d ∷ []) q.0.triangles q.1.part)))
 
-    first_before : (d e : ℕ) (z w : Triangulation) → d < e → Begins d z → Begins e w → Below z w
+    first_before : (d e : ℕ) (z w : Triangulation) → d < e → Begins d z → Begins e w → WordBelow z w
     first_before d e z w l p q =
-        subst (λ v. Below v w) (sym p.2) (subst (λ v. Below (extended d (written x y d) p.0) v) (sym q.2) (head_below d e p.0.word q.0.word l))
+        subst (λ v. WordBelow v w) (sym p.2) (subst (λ v. WordBelow (extended d (written x y d) p.0) v) (sym q.2) (head_below d e p.0.word q.0.word l))
 
     split : (w : List ℕ) (us : List Triangle) → Completes h ts ((x, y) ∷ fs) w us → (d : ℕ) × IsOf h d × Begins d (record { word = w; triangles = us })
     split [] us k = absurd k.closes
@@ -130,8 +102,8 @@ module _ (h : Patch) (apart : AreApart h) (rising : AllPairs (λ j k. j < k) (sp
     pub step_listed : AreListed ts ((x, y) ∷ fs)
     step_listed = (
       flat_map (λ d. (group d).0) (spot_numbers h),
-      listing_same Below (λ z. (d : ℕ) × IsOf h d × Begins d z) (λ z. Completes h ts ((x, y) ∷ fs) z.word z.triangles) (flat_map (λ d. (group d).0) (spot_numbers h))
-          (listing_groups (λ j k. j < k) Below (IsOf h) Begins (λ d. (group d).0) (spot_numbers h) numbers_listing (λ d o. (group d).1 o) (λ d e z w i j l p q. first_before d e z w l p q))
+      listing_same WordBelow (λ z. (d : ℕ) × IsOf h d × Begins d z) (λ z. Completes h ts ((x, y) ∷ fs) z.word z.triangles) (flat_map (λ d. (group d).0) (spot_numbers h))
+          (listing_groups (λ j k. j < k) WordBelow (IsOf h) Begins (λ d. (group d).0) (spot_numbers h) numbers_listing (λ d o. (group d).1 o) (λ d e z w i j l p q. first_before d e z w l p q))
           (λ z r. subst (λ v. Completes h ts ((x, y) ∷ fs) v.word v.triangles) (sym r.2.2) (completes_more h ts x y r.0 fs r.2.0.word r.2.0.triangles r.2.1))
           (λ z k. split z.word z.triangles k),
     )
@@ -172,7 +144,7 @@ module _ (h : Patch) (apart : AreApart h) (rising : AllPairs (λ j k. j < k) (sp
         record {
           is = is;
           lesser = filter (is_lesser x) all.0;
-          listing = listing_filter Below (λ y. Completes h [] is.steps y.word y.triangles) (λ y. IsTriangulation h y × IsBelow y.word x.word) (is_lesser x) all.0 all.1
+          listing = listing_filter WordBelow (λ y. Completes h [] is.steps y.word y.triangles) (λ y. IsTriangulation h y × IsBelow y.word x.word) (is_lesser x) all.0 all.1
               (λ y k e. (completes_triangulation h apart is.steps y is.boundary k, less_of (slice_cmp nat_cmp y.word x.word) e))
               (λ y p. triangulation_completes h is.steps y is.boundary p.0) (λ y p. ap is_lt p.1);
           count = refl;

@@ -7,25 +7,14 @@ use Rattle.ntfe_model.specs.Charts.{Patch, turn, IsOf, IsUnit, AreApart}
 use Rattle.ntfe_model.specs.Triangulations.{HasSide}
 use Rattle.ntfe_model.specs.declared.triangle.Triangle.{Triangle}
 use Rattle.ntfe_model.proofs.Listings.{Contains-here, Contains-there, Contains-cases, Contains-none, All-from_contains}
-use Rattle.ntfe_model.proofs.Triples.{Decided, decide_number, decide_either, decide_both}
+use Rattle.ntfe_model.proofs.Triples.{Decided, decide_number, decide_integer, decide_either, decide_both, decide_each}
 use Rattle.ntfe_model.proofs.UnitTriples.{area_of, unit_areas}
 use Rattle.face_chart.proofs.UnitLemmas.{same_area_unit}
 use Rattle.fine_stream.specs.Paths.{AreOpposite, IsUnitSide, AreInConflict, AreCompatible, IsPart}
 use Rattle.fine_stream.proofs.Parts.{crossing_conflict, no_conflict_same, no_conflict_turns, each_side, compatible_sides, second_side, third_side, part_more, part_next}
-use Rattle.star_builder.proofs.FacetPoints.{decide_equal}
-
--- what is decided of each entry is decided of all
-pub decide_each : {A : Type 0} (P : A → Type 0) (xs : List A) → ((x : A) → Contains xs x → Decided (P x)) → Decided ((x : A) → Contains xs x → P x)
-decide_each P [] decide = inl (λ x c. Contains-none x c)
-decide_each {A} P (z ∷ zs) decide = by (decide z (Contains-here z z zs refl)) (decide_each P zs (λ x c. decide x (Contains-there x z zs c)))
-  where
-    by : Decided (P z) → Decided ((x : A) → Contains zs x → P x) → Decided ((x : A) → Contains (z ∷ zs) x → P x)
-    by (inl p) (inl q) = inl (λ x c. ⊎_elim (λ e. subst P (sym e) p) (q x) (Contains-cases x z zs c))
-    by (inl p) (inr n) = inr (λ f. n (λ x c. f x (Contains-there x z zs c)))
-    by (inr n) q = inr (λ f. n (f z (Contains-here z z zs refl)))
 
 decide_opposite : (x y : ℤ) → Decided (AreOpposite x y)
-decide_opposite x y = decide_either (decide_both (decide_equal x (pos 1)) (decide_equal y (negsuc 0))) (decide_both (decide_equal x (negsuc 0)) (decide_equal y (pos 1)))
+decide_opposite x y = decide_either (decide_both (decide_integer x (pos 1)) (decide_integer y (negsuc 0))) (decide_both (decide_integer x (negsuc 0)) (decide_integer y (pos 1)))
 
 module _ (h : Patch) (apart : AreApart h) where
   decide_conflict : (x y z w : ℕ) → IsUnitSide h x y → IsUnitSide h z w → Decided (AreInConflict h x y z w)
@@ -66,7 +55,7 @@ module _ (h : Patch) (apart : AreApart h) where
   module _ (a b c : ℕ) (known : IsUnit h a b c) where
     decide_unit : (t : Triangle) → IsOf h t.a × IsOf h t.b × IsOf h t.c → Decided (IsUnit h t.a t.b t.c)
     decide_unit t o =
-        ⊎_elim (λ e. inl (same_area_unit h a b c t.a t.b t.c known o e)) (λ n. inr (λ u. n (unit_areas h t.a t.b t.c a b c u known))) (decide_equal (area_of h t.a t.b t.c) (area_of h a b c))
+        ⊎_elim (λ e. inl (same_area_unit h a b c t.a t.b t.c known o e)) (λ n. inr (λ u. n (unit_areas h t.a t.b t.c a b c u known))) (decide_integer (area_of h t.a t.b t.c) (area_of h a b c))
 
     pub decide_fits : (ts : List Triangle) → IsPart h ts → (t : Triangle) → IsOf h t.a × IsOf h t.b × IsOf h t.c → Decided (IsPart h (ts ++ t ∷ []))
     decide_fits ts part t o = by (decide_unit t o)
