@@ -169,7 +169,7 @@ zero_first z x p e =
     size (pos n) h = ap pos h
     size (negsuc n) h = absurd (omega (arith, h))
 
--- two mixtures of two places with weights that sum to 2 are one, where some third place makes an area with them
+-- two combinations of two places with weights that sum to 2 are one, where some third place makes an area with them
 pub weights_fixed : (q : ℕ × ℕ) (a b c : Vector) (k l i j : ℤ) → IsPositive (area q a b c) → k +ℤ l ≡ pos 2 → i +ℤ j ≡ pos 2
     → vector_sum (multiple k a) (multiple l b) ≡ vector_sum (multiple i a) (multiple j b) → (k ≡ i) × (l ≡ j)
 weights_fixed q a b c k l i j p e f same =

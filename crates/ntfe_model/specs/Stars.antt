@@ -32,7 +32,7 @@ abbrev pub IsOrder : ℕ → List ℕ → Type 0
 IsOrder n order = IsPermutation (range_with_len 1 n) order
 
 -- the points of the list with these numbers: size times p is l1 a + l2 b + l3 c + l4 d, where size is that of the determinant of a, b, c, d
-pub record IsMixture (xs : List Point) (a b c d p : ℕ) (size l1 l2 l3 l4 : ℤ) : Type 0 where
+pub record IsCombination (xs : List Point) (a b c d p : ℕ) (size l1 l2 l3 l4 : ℤ) : Type 0 where
   pub size_is : size ≡ pos (unsigned_abs (det4 (place_of_point xs a) (place_of_point xs b) (place_of_point xs c) (place_of_point xs d)))
   pub mix : multiple size (place_of_point xs p) ≡ vector_sum (multiple l1 (place_of_point xs a)) (vector_sum (multiple l2 (place_of_point xs b)) (vector_sum (multiple l3 (place_of_point xs c)) (multiple l4 (place_of_point xs d))))
 
@@ -49,7 +49,7 @@ pub record IsLexAbove (xs : List Point) (w : List ℤ) (order : List ℕ) (a b c
   pub l3 : ℤ
   pub l4 : ℤ
   pub size : ℤ
-  pub mixture : IsMixture xs a b c d p size l1 l2 l3 l4
+  pub combination : IsCombination xs a b c d p size l1 l2 l3 l4
   pub above : IsFirstPositive
       ((size *ℤ height w p -ℤ (l1 *ℤ height w a +ℤ l2 *ℤ height w b +ℤ l3 *ℤ height w c +ℤ l4 *ℤ height w d))
       ∷ map (push_coefficient size (a, l1) (b, l2) (c, l3) (d, l4) p) order)
@@ -170,5 +170,5 @@ pub record IsAboveOriginPlane (xs : List Point) (w : List ℤ) (h : ℤ) (a b c 
   pub l3 : ℤ
   pub l4 : ℤ
   pub size : ℤ
-  pub mixture : IsMixture xs a b c d p size l1 l2 l3 l4
+  pub combination : IsCombination xs a b c d p size l1 l2 l3 l4
   pub above : (l1 *ℤ height w a +ℤ l2 *ℤ height w b +ℤ l3 *ℤ height w c +ℤ l4 *ℤ height w d +ℤ (size -ℤ (l1 +ℤ l2 +ℤ l3 +ℤ l4)) *ℤ h) <ℤ (size *ℤ height w p)
