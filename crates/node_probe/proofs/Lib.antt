@@ -7,7 +7,7 @@ pub mod AssemblyLemmas
 pub mod Refuting
 pub mod Solutions
 pub mod FindingLemmas
-pub mod ShelfLemmas
+pub mod FoldCacheLemmas
 pub mod Lifted
 pub mod StemLemmas
 pub mod FollowedLemmas

@@ -2,6 +2,6 @@ pub mod Heads
 pub mod Refutations
 pub mod Findings
 pub mod Lifted
-pub mod Shelves
+pub mod FoldCaches
 pub mod Stems
 pub mod Followed

@@ -9,7 +9,7 @@ ghost use Rattle.node_probe.specs.Followed.{IsJudgement};
 use crate::assembling::certificate;
 use crate::finding::Finding;
 use crate::head::HeadRows;
-use crate::shelf::Shelf;
+use crate::fold_cache::FoldCache;
 use crate::solving::judge_head;
 use crate::stems::Stems;
 use ntfe_model::{Geometry, Heights, Key, List};
@@ -62,7 +62,7 @@ pub fn judge_following(
     columns: u32,
     key: &Key,
     rows: &HeadRows,
-    shelf: &mut Shelf,
+    cache: &mut FoldCache,
     stems: &mut Stems,
     tableau: &mut Tableau,
     width: u8,
@@ -76,7 +76,7 @@ pub fn judge_following(
     requires stems { stems.old.columns ≡ columns }
     requires low { 1 ≤ width }
     requires high { width ≤ 62 }
-    ensures patches { shelf.new ≡ shelf.old }
+    ensures patches { cache.new ≡ cache.old }
     ensures columns { tableau.new.columns ≡ tableau.old.columns }
     ensures stems { stems.new.columns ≡ stems.old.columns }
     ensures judged { IfOk result (IsJudgement geometry.now width key.now) }
@@ -86,5 +86,5 @@ pub fn judge_following(
             return Ok(finding);
         }
     }
-    judge_head(alloc, geometry, columns, key, rows, shelf, tableau, width)
+    judge_head(alloc, geometry, columns, key, rows, cache, tableau, width)
 }

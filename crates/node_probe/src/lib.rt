@@ -8,11 +8,11 @@ mod following;
 mod head;
 mod heights;
 mod probing;
-mod shelf;
+mod fold_cache;
 mod solving;
 mod stems;
 
 pub use finding::Finding;
-pub use probing::{probe, probe_following, probe_shelved};
-pub use shelf::Shelf;
+pub use probing::{probe, probe_following, probe_cached};
+pub use fold_cache::FoldCache;
 pub use stems::Stems;

@@ -6,14 +6,14 @@ ghost use Rattle.ntfe_model.specs.Keys.{IsKey};
 ghost use Rattle.ntfe_model.specs.Shapes.{IsShape};
 ghost use Rattle.nogood_set.specs.Blocking.{NoneBlocks};
 ghost use Rattle.node_probe.specs.Heads.{KeepsHead};
-ghost use Rattle.node_probe.specs.Shelves.{patches};
+ghost use Rattle.node_probe.specs.FoldCaches.{patches};
 ghost use Rattle.node_probe.specs.Findings.{IsWithin, IsFinding, RulesOut};
 ghost use Rattle.node_probe.specs.Followed.{IsFoundTrue};
 
 use crate::fetching::fetch_head;
 use crate::finding::Finding;
 use crate::following::judge_following;
-use crate::shelf::Shelf;
+use crate::fold_cache::FoldCache;
 use crate::solving::judge_head;
 use crate::stems::Stems;
 use nogood_set::NogoodSet;
@@ -62,7 +62,7 @@ fn found_before<B: Book>(
 ///
 /// So no extendable choice begins with the numbers of a key that is blocked or refuted.
 ///
-/// The items that were looked for are kept in the book, which loses none, and their folds on the shelf
+/// The items that were looked for are kept in the book, which loses none, and their folds on the cache
 /// of the geometry, so that a later probe does not make them again. Heights that the solver finds are kept
 /// there too: where those of a key's stem lift all folds of the key and a two-face is left, the solver is
 /// not asked. The rows of a head use the memory of those before. Where the head has more folds than the
@@ -70,12 +70,12 @@ fn found_before<B: Book>(
 ///
 /// # Errors
 /// `AllocError` where memory is short.
-pub fn probe_shelved<B: Book>(
+pub fn probe_cached<B: Book>(
     alloc: Global,
     geometry: &Geometry,
     key: &Key,
     book: &mut B,
-    shelf: &mut Shelf,
+    cache: &mut FoldCache,
     set: &NogoodSet,
     tableau: &mut Tableau,
     width: u8,
@@ -83,13 +83,13 @@ pub fn probe_shelved<B: Book>(
     requires key { IsKey geometry.now key.now }
     requires shape { B.shape book.old ≡ geometry.now }
     requires set { All (IsCertificate geometry.now) set.now }
-    requires patches { shelf.old ≡ patches geometry.now }
+    requires patches { cache.old ≡ patches geometry.now }
     requires columns { tableau.old.columns ≡ length geometry.now.points }
     requires low { 1 ≤ width }
     requires high { width ≤ 62 }
     ensures shape { B.shape book.new ≡ B.shape book.old }
     ensures kept { KeepsAll (B.keeps book.old) (B.keeps book.new) }
-    ensures patches { shelf.new ≡ shelf.old }
+    ensures patches { cache.new ≡ cache.old }
     ensures columns { tableau.new.columns ≡ tableau.old.columns }
     ensures finding { IfOk result (IsFinding geometry.now width key.now set.now) }
     ensures pruned { IfOk result (RulesOut geometry.now key.now) }
@@ -98,13 +98,13 @@ pub fn probe_shelved<B: Book>(
     if let Some(finding) = found_before(geometry, key, book, set)? {
         return Ok(finding);
     }
-    let rows = shelf.head_rows(alloc, key, book)?;
-    let finding = judge_head(alloc, geometry, columns, key, &rows, shelf, tableau, width)?;
-    shelf.take_back(rows);
+    let rows = cache.head_rows(alloc, key, book)?;
+    let finding = judge_head(alloc, geometry, columns, key, &rows, cache, tableau, width)?;
+    cache.take_back(rows);
     Ok(finding)
 }
 
-/// What is found at a key of the geometry, as [`probe_shelved`] has it, but that a key whose folds cancel has some certificate
+/// What is found at a key of the geometry, as [`probe_cached`] has it, but that a key whose folds cancel has some certificate
 /// that blocks it, and that at the greatest width a choice is a class wherever its heights are found, the numbers of the solver
 /// being wide or not. The stems are those of the key that was probed before: as far as its two-faces have the same items,
 /// nothing is done again.
@@ -116,7 +116,7 @@ pub fn probe_following<B: Book>(
     geometry: &Geometry,
     key: &Key,
     book: &mut B,
-    shelf: &mut Shelf,
+    cache: &mut FoldCache,
     set: &NogoodSet,
     stems: &mut Stems,
     tableau: &mut Tableau,
@@ -125,14 +125,14 @@ pub fn probe_following<B: Book>(
     requires key { IsKey geometry.now key.now }
     requires shape { B.shape book.old ≡ geometry.now }
     requires set { All (IsCertificate geometry.now) set.now }
-    requires patches { shelf.old ≡ patches geometry.now }
+    requires patches { cache.old ≡ patches geometry.now }
     requires columns { tableau.old.columns ≡ length geometry.now.points }
     requires stems { stems.old.columns ≡ length geometry.now.points }
     requires low { 1 ≤ width }
     requires high { width ≤ 62 }
     ensures shape { B.shape book.new ≡ B.shape book.old }
     ensures kept { KeepsAll (B.keeps book.old) (B.keeps book.new) }
-    ensures patches { shelf.new ≡ shelf.old }
+    ensures patches { cache.new ≡ cache.old }
     ensures columns { tableau.new.columns ≡ tableau.old.columns }
     ensures stems { stems.new.columns ≡ stems.old.columns }
     ensures finding { IfOk result (IsFoundTrue geometry.now width key.now set.now) }
@@ -142,16 +142,16 @@ pub fn probe_following<B: Book>(
     if let Some(finding) = found_before(geometry, key, book, set)? {
         return Ok(finding);
     }
-    let rows = shelf.head_rows(alloc, key, book)?;
+    let rows = cache.head_rows(alloc, key, book)?;
     let finding = judge_following(
-        alloc, geometry, columns, key, &rows, shelf, stems, tableau, width,
+        alloc, geometry, columns, key, &rows, cache, stems, tableau, width,
     )?;
-    shelf.take_back(rows);
+    cache.take_back(rows);
     Ok(finding)
 }
 
-/// What is found at a key of the geometry, as [`probe_shelved`] has it, with a shelf of its own. Whoever
-/// probes many keys keeps a shelf.
+/// What is found at a key of the geometry, as [`probe_cached`] has it, with a cache of its own. Whoever
+/// probes many keys keeps a cache.
 ///
 /// # Errors
 /// `AllocError` where memory is short.
@@ -176,6 +176,6 @@ pub fn probe<B: Book>(
     ensures finding { IfOk result (IsFinding geometry.now width key.now set.now) }
     ensures pruned { IfOk result (RulesOut geometry.now key.now) }
 {
-    let mut shelf = Shelf::new(alloc, geometry)?;
-    probe_shelved(alloc, geometry, key, book, &mut shelf, set, tableau, width)
+    let mut cache = FoldCache::new(alloc, geometry)?;
+    probe_cached(alloc, geometry, key, book, &mut cache, set, tableau, width)
 }

@@ -9,7 +9,7 @@ ghost use Rattle.node_probe.specs.declared.finding.Finding.TheVariants.{Descend}
 use crate::assembling::certificate;
 use crate::finding::Finding;
 use crate::head::HeadRows;
-use crate::shelf::Shelf;
+use crate::fold_cache::FoldCache;
 use ntfe_model::{Geometry, Heights, Key, List};
 use std::alloc::{AllocError, Global};
 use strict_solver::{Solved, Tableau};
@@ -38,28 +38,28 @@ fn is_lifted(
     geometry: &Geometry,
     key: &Key,
     rows: &HeadRows,
-    shelf: &mut Shelf,
+    cache: &mut FoldCache,
 ) -> Result<bool, AllocError>
     requires shape { IsShape geometry.now }
     requires key { IsKey geometry.now key.now }
     requires within { IsWithin geometry.now key.now }
     requires rows { AreHeadRows geometry.now key.now rows.now.folds.items rows.now.faces.items }
-    ensures same { shelf.new ≡ shelf.old }
+    ensures same { cache.new ≡ cache.old }
     ensures solution { IfOk result (λ lifted. lifted ≡ true → (width : ℕ) → IsSolution geometry.now width key.now Descend) }
 {
     if key.0.as_slice().len() == geometry.faces().len() {
         return Ok(false);
     }
-    shelf.lift(key, rows.folds.as_slice(), geometry.points().len())
+    cache.lift(key, rows.folds.as_slice(), geometry.points().len())
 }
 
-/// What the solver finds on the folds of a head. Heights that it finds are kept on the shelf.
+/// What the solver finds on the folds of a head. Heights that it finds are kept on the cache.
 fn solve_head(
     alloc: Global,
     geometry: &Geometry,
     key: &Key,
     rows: &HeadRows,
-    shelf: &mut Shelf,
+    cache: &mut FoldCache,
     tableau: &mut Tableau,
     width: u8,
 ) -> Result<Finding, AllocError>
@@ -71,7 +71,7 @@ fn solve_head(
     requires room { length rows.now.folds.items ≤ tableau.old.rows }
     requires low { 1 ≤ width }
     requires high { width ≤ 62 }
-    ensures patches { shelf.new ≡ shelf.old }
+    ensures patches { cache.new ≡ cache.old }
     ensures columns { tableau.new.columns ≡ tableau.old.columns }
     ensures solution { IfOk result (IsSolution geometry.now width key.now) }
 {
@@ -83,7 +83,7 @@ fn solve_head(
         }
         Solved::Wide { step, number } if whole => Ok(Finding::Wide { step, number }),
         Solved::Feasible => {
-            shelf.keep_heights(key, tableau.heights())?;
+            cache.keep_heights(key, tableau.heights())?;
             if !whole {
                 return Ok(Finding::Descend);
             }
@@ -102,7 +102,7 @@ pub fn judge_head(
     columns: u32,
     key: &Key,
     rows: &HeadRows,
-    shelf: &mut Shelf,
+    cache: &mut FoldCache,
     tableau: &mut Tableau,
     width: u8,
 ) -> Result<Finding, AllocError>
@@ -114,13 +114,13 @@ pub fn judge_head(
     requires columns { tableau.old.columns ≡ columns }
     requires low { 1 ≤ width }
     requires high { width ≤ 62 }
-    ensures patches { shelf.new ≡ shelf.old }
+    ensures patches { cache.new ≡ cache.old }
     ensures columns { tableau.new.columns ≡ tableau.old.columns }
     ensures solution { IfOk result (IsSolution geometry.now width key.now) }
 {
-    if is_lifted(geometry, key, rows, shelf)? {
+    if is_lifted(geometry, key, rows, cache)? {
         return Ok(Finding::Descend);
     }
     make_room(alloc, tableau, rows.folds.len() as u32, columns)?;
-    solve_head(alloc, geometry, key, rows, shelf, tableau, width)
+    solve_head(alloc, geometry, key, rows, cache, tableau, width)
 }

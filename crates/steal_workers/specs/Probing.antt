@@ -3,7 +3,7 @@ use Rattle.std.specs.Prelude.{◌≡◌, ℕ, ◌<◌, ◌≤◌, List, length, 
 use Rattle.ntfe_model.specs.Shapes.{Shape}
 use Rattle.ntfe_model.specs.Charts.{Patch}
 use Rattle.ntfe_model.specs.Keys.{AllItemsExist, IsRefutedAt, IsWideAt}
-use Rattle.node_probe.specs.Shelves.{patches}
+use Rattle.node_probe.specs.FoldCaches.{patches}
 use Rattle.node_probe.specs.declared.finding.Finding.{Finding}
 use Rattle.node_probe.specs.declared.finding.Finding.TheVariants as finding
 use Rattle.ntfe_model.specs.declared.nogood.Nogood.{Nogood}
@@ -17,8 +17,8 @@ pub record Probes : Type 0 where
   pub width : ℕ
 
 -- its folds are of this geometry, its stems and its solver have a column for each point, and its width is one that the solver takes
-pub record IsProber (g : Shape) (shelf : List Patch) (stems columns width : ℕ) : Type 0 where
-  pub shelved : shelf ≡ patches g
+pub record IsProber (g : Shape) (cache : List Patch) (stems columns width : ℕ) : Type 0 where
+  pub cached : cache ≡ patches g
   pub stems_points : stems ≡ length g.points
   pub points : columns ≡ length g.points
   pub low : 1 ≤ width

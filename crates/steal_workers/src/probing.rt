@@ -5,7 +5,7 @@ ghost use Rattle.ntfe_model.specs.Keys.{IsKey};
 ghost use Rattle.steal_workers.specs.Probing.{FindsWithin, IsVerdictOf, IsVerdictOn};
 
 use choice_board::Verdict;
-use node_probe::{Finding, Shelf, Stems, probe_following};
+use node_probe::{Finding, FoldCache, Stems, probe_following};
 use nogood_set::NogoodSet;
 use ntfe_model::{Book, Geometry, Key};
 use std::alloc::{AllocError, Global};
@@ -20,7 +20,7 @@ const FIRST_ROWS: u32 = 64;
 pub struct Prober<'g> {
     alloc: Global,
     geometry: &'g Geometry,
-    shelf: Shelf,
+    cache: FoldCache,
     stems: Stems,
     tableau: Tableau,
     width: u8,
@@ -34,7 +34,7 @@ impl<'g> Model for Prober<'g> {
 
     ghost view = { λ p. record { geometry = p.geometry.now; width = p.width } };
 
-    ghost invariant = { λ p. IsProber p.geometry.now p.shelf p.stems.columns p.tableau.columns p.width };
+    ghost invariant = { λ p. IsProber p.geometry.now p.cache p.stems.columns p.tableau.columns p.width };
 }
 
 /// The verdict of a finding. A key that a certificate of the set blocks is pruned by a copy of it.
@@ -64,13 +64,13 @@ impl<'g> Prober<'g> {
         ensures { IfOk result (λ p. p ≡ record { geometry = geometry.now; width = width }) }
     {
         let columns = geometry.points().len() as u32;
-        let shelf = Shelf::new(alloc, geometry)?;
+        let cache = FoldCache::new(alloc, geometry)?;
         let stems = Stems::new(alloc, columns, geometry.faces().len())?;
         let tableau = Tableau::reserve(alloc, FIRST_ROWS, columns)?;
         Ok(Prober {
             alloc,
             geometry,
-            shelf,
+            cache,
             stems,
             tableau,
             width,
@@ -100,7 +100,7 @@ impl<'g> Prober<'g> {
             self.geometry,
             key,
             book,
-            &mut self.shelf,
+            &mut self.cache,
             set,
             &mut self.stems,
             &mut self.tableau,

@@ -12,8 +12,8 @@ use Rattle.ntfe_model.specs.declared.triangulation.Triangulation.{Triangulation}
 use Rattle.node_probe.specs.Heads.{AreHeadRows}
 use Rattle.node_probe.proofs.RowLemmas.{rows_step}
 use Rattle.node_probe.specs.declared.head.HeadRows.{HeadRows}
-use Rattle.node_probe.specs.declared.shelf.KeptFolds.{KeptFolds}
-use Rattle.node_probe.specs.Shelves.{patches, IsShelved, AreShelved, HasFolds, AddsItem}
+use Rattle.node_probe.specs.declared.fold_cache.KeptFolds.{KeptFolds}
+use Rattle.node_probe.specs.FoldCaches.{patches, IsShelved, AreShelved, HasFolds, AddsItem}
 use Rattle.strict_solver.proofs.Placing.{set_there}
 
 -- what stands at a place with folds, as it is read
@@ -39,7 +39,7 @@ pub adds_item : (h g : Patch) (n face : ℕ) (old new : HeadRows) (rs lent : Lis
     → AddsItem g n face old new
 adds_item h g n face old new rs lent p e s a b = record {
   added = rs;
-  shelved = (let P : Patch → Type 0 = λ k. IsShelved k n rs in subst P p s);
+  cached = (let P : Patch → Type 0 = λ k. IsShelved k n rs in subst P p s);
   folds = a ∙ ap (λ qs. old.folds.items ++ qs) e;
   faces = b ∙ ap (λ (qs : List Fold). old.faces.items ++ replicate (length qs) face) e;
 }
@@ -64,7 +64,7 @@ shelved_step g key numbers f n h old new e l en p a rows =
     let m = ap length e in
     let P : Patch → Type 0 = λ k. AreItems k in
     rows_step g key f old.folds.items new.folds.items a.added a.added old.faces.items new.faces.items n (omega (arith, l, m)) (en ∙ ap (λ (ks : List ℕ). get_or ks f 0) e) refl a.folds a.faces
-    (subst P p (a.shelved.item, a.shelved.is_item, a.shelved.folds)) a.shelved.small rows
+    (subst P p (a.cached.item, a.cached.is_item, a.cached.folds)) a.cached.small rows
   where
     AreItems : Patch → Type 0
     AreItems k = (x : Triangulation) × IsItem k n x × AreFolds k x a.added

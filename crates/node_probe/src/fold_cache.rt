@@ -7,7 +7,7 @@ ghost use Rattle.ntfe_model.specs.Books.{KeepsItem};
 ghost use Rattle.ntfe_model.specs.Keys.{item_limit, IsKey};
 ghost use Rattle.node_probe.specs.Heads.{KeepsHead, AreHeadRows};
 ghost use Rattle.node_probe.specs.Lifted.{AreLifted};
-ghost use Rattle.node_probe.specs.Shelves.{patches, AreShelved, HasNoOthers, HasFolds, AddsItem};
+ghost use Rattle.node_probe.specs.FoldCaches.{patches, AreShelved, HasNoOthers, HasFolds, AddsItem};
 
 use crate::head::{HeadRows, add_rows};
 use crate::heights::StemHeights;
@@ -50,8 +50,8 @@ fn keep_folds(
     item: &Triangulation,
 ) -> Result<usize, AllocError>
     requires item { IsItem chart.now number item.now }
-    requires shelved { AreShelved chart.now kept.old.items }
-    ensures shelved { AreShelved chart.now kept.new.items }
+    requires cached { AreShelved chart.now kept.old.items }
+    ensures cached { AreShelved chart.now kept.new.items }
     ensures folds { IfOk result (λ place. HasFolds kept.new.items place number) }
 {
     let place = (number % PLACE_COUNT) as usize;
@@ -68,14 +68,14 @@ fn keep_folds(
 
 /// A two-face with the folds of items that were asked for. Contracts see the patch.
 #[derive(Drop)]
-pub struct FaceShelf {
+pub struct FaceFolds {
     chart: Chart,
     kept: Vec<Option<KeptFolds>>,
 }
 
-impl Model for FaceShelf {
+impl Model for FaceFolds {
     ghost use Rattle.ntfe_model.specs.Charts.{Patch};
-    ghost use Rattle.node_probe.specs.Shelves.{AreShelved};
+    ghost use Rattle.node_probe.specs.FoldCaches.{AreShelved};
 
     ghost Value = { Patch };
 
@@ -84,12 +84,12 @@ impl Model for FaceShelf {
     ghost invariant = { λ s. AreShelved s.chart s.kept.items };
 }
 
-impl FaceShelf {
+impl FaceFolds {
     /// A two-face with no folds yet.
-    pub fn new(alloc: Global, chart: Chart) -> FaceShelf
+    pub fn new(alloc: Global, chart: Chart) -> FaceFolds
         ensures { result ≡ chart }
     {
-        FaceShelf {
+        FaceFolds {
             chart,
             kept: Vec::new(alloc),
         }
@@ -142,48 +142,48 @@ impl FaceShelf {
 /// Adds the folds of an item that the book keeps. It is asked for the item only where no folds are kept.
 fn add_kept<B: Book>(
     alloc: Global,
-    shelf: &mut FaceShelf,
+    cache: &mut FaceFolds,
     book: &B,
     face: u32,
     number: u32,
     rows: &mut HeadRows,
 ) -> Result<(), AllocError>
     requires face { face < length (B.shape book.now).faces }
-    requires patch { shelf.old ≡ patch_at (B.shape book.now) face }
+    requires patch { cache.old ≡ patch_at (B.shape book.now) face }
     requires number { number ≤ item_limit (B.shape book.now) }
     requires kept { KeepsItem (B.keeps book.now) face number }
-    ensures patch { shelf.new ≡ shelf.old }
-    ensures rows { OnOk result (AddsItem shelf.old number face rows.old rows.new) }
+    ensures patch { cache.new ≡ cache.old }
+    ensures rows { OnOk result (AddsItem cache.old number face rows.old rows.new) }
 {
-    if shelf.add_kept_folds(face, number, rows)? {
+    if cache.add_kept_folds(face, number, rows)? {
         return Ok(());
     }
     let item = book.kept(face, number).unwrap();
-    shelf.add_folds(alloc, face, number, item, rows)
+    cache.add_folds(alloc, face, number, item, rows)
 }
 
 /// The folds of the head's items, which the book keeps, in the memory of rows that are empty.
-fn shelved_rows<B: Book>(
+fn cached_rows<B: Book>(
     alloc: Global,
-    shelves: &mut Vec<FaceShelf>,
+    caches: &mut Vec<FaceFolds>,
     empty: HeadRows,
     key: &Key,
     book: &B,
 ) -> Result<HeadRows, AllocError>
     requires folds { empty.folds.items ≡ [] }
     requires faces { empty.faces.items ≡ [] }
-    requires patches { shelves.old.items ≡ patches (B.shape book.now) }
+    requires patches { caches.old.items ≡ patches (B.shape book.now) }
     requires key { IsKey (B.shape book.now) key.now }
     requires few { length key.now < 2 ^ 32 }
     requires kept { KeepsHead (B.keeps book.now) key.now }
-    ensures patches { shelves.new.items ≡ shelves.old.items }
+    ensures patches { caches.new.items ≡ caches.old.items }
     ensures rows { IfOk result (λ h. AreHeadRows (B.shape book.now) key.now h.folds.items h.faces.items) }
 {
     let numbers = key.0.as_slice();
     let mut rows = empty;
     for face in 0..numbers.len() {
-        let shelf = &mut shelves[face];
-        add_kept(alloc, shelf, book, face as u32, numbers[face], &mut rows)?;
+        let cache = &mut caches[face];
+        add_kept(alloc, cache, book, face as u32, numbers[face], &mut rows)?;
     }
     Ok(rows)
 }
@@ -192,13 +192,13 @@ fn shelved_rows<B: Book>(
 /// that the solver found on the way to the last key, and memory for the folds of a head. Contracts see the
 /// patches.
 #[derive(Drop)]
-pub struct Shelf {
-    faces: Vec<FaceShelf>,
+pub struct FoldCache {
+    faces: Vec<FaceFolds>,
     heights: StemHeights,
     spare: HeadRows,
 }
 
-impl Model for Shelf {
+impl Model for FoldCache {
     ghost use Rattle.std.specs.Prelude.{List};
     ghost use Rattle.ntfe_model.specs.Charts.{Patch};
 
@@ -207,21 +207,21 @@ impl Model for Shelf {
     ghost view = { λ s. s.faces.items };
 }
 
-impl Shelf {
-    /// The shelf of a geometry, with no folds and no heights yet.
+impl FoldCache {
+    /// The cache of a geometry, with no folds and no heights yet.
     ///
     /// # Errors
     /// `AllocError` where memory is short.
-    pub fn new(alloc: Global, geometry: &Geometry) -> Result<Shelf, AllocError>
+    pub fn new(alloc: Global, geometry: &Geometry) -> Result<FoldCache, AllocError>
         ensures { IfOk result (λ s. s ≡ patches geometry.now) }
     {
         let count = geometry.faces().len();
         let mut faces = Vec::with_capacity(alloc, count)?;
         for face in 0..count {
             let chart = face_chart::chart(alloc, geometry, face as u32)?;
-            faces.push(FaceShelf::new(alloc, chart))?;
+            faces.push(FaceFolds::new(alloc, chart))?;
         }
-        Ok(Shelf {
+        Ok(FoldCache {
             faces,
             heights: StemHeights::new(alloc, count)?,
             spare: HeadRows::new(alloc),
@@ -273,7 +273,7 @@ impl Shelf {
     {
         let mut empty = mem::replace(&mut self.spare, HeadRows::new(alloc));
         empty.clear();
-        shelved_rows(alloc, &mut self.faces, empty, key, book)
+        cached_rows(alloc, &mut self.faces, empty, key, book)
     }
 
     /// Takes rows back, whose memory the next head's rows use.

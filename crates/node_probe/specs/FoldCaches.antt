@@ -7,7 +7,7 @@ use Rattle.ntfe_model.specs.Choices.{AreFolds, IsSmallFold}
 use Rattle.ntfe_model.specs.declared.triangulation.Triangulation.{Triangulation}
 use Rattle.ntfe_model.specs.declared.nogood.Fold.{Fold}
 use Rattle.node_probe.specs.declared.head.HeadRows.{HeadRows}
-use Rattle.node_probe.specs.declared.shelf.KeptFolds.{KeptFolds}
+use Rattle.node_probe.specs.declared.fold_cache.KeptFolds.{KeptFolds}
 
 -- the patches of the geometry's two-faces, in their order
 abbrev pub patches : Shape → List Patch
@@ -35,6 +35,6 @@ HasFolds kept place n = (e : KeptFolds) × (slice_get kept place ≡ Some (Some 
 -- the folds of the patch's item were added, with the number of its two-face
 pub record AddsItem (h : Patch) (n face : ℕ) (old new : HeadRows) : Type 0 where
   pub added : List Fold
-  pub shelved : IsShelved h n added
+  pub cached : IsShelved h n added
   pub folds : new.folds.items ≡ old.folds.items ++ added
   pub faces : new.faces.items ≡ old.faces.items ++ replicate (length added) face

@@ -2,8 +2,8 @@ use Rattle.std.proofs.Common.{◌≡◌, ◌<◌, ◌∙◌, refl, sym, ap, subs
 use Rattle.ntfe_model.specs.Books.{KeepsItem}
 use Rattle.ntfe_model.specs.Charts.{Patch, patch_at}
 use Rattle.node_probe.proofs.KeyLemmas.{key_low}
-use Rattle.node_probe.proofs.ShelfLemmas.{shelved_step, place_same, patch_is}
-use Rattle.node_probe.proofs.shelf.shelved_rows.Goals as goal
+use Rattle.node_probe.proofs.FoldCacheLemmas.{shelved_step, place_same, patch_is}
+use Rattle.node_probe.proofs.fold_cache.cached_rows.Goals as goal
 
 pub add_kept-requires-clause-number : goal.add_kept-requires-clause-number
 add_kept-requires-clause-number g c =
@@ -27,10 +27,10 @@ loop-face-preserved g c =
     let h = g.B.Book.shape c.args.book.now in
     let f = c.loop-face.face in
     let e = c.as_slice-numbers.ensures ∙ c.key.view_is in
-    let shelves = c.loop-face.shelves.items in
-    let shelf = c.index_mut-shelf.result.now in
+    let caches = c.loop-face.caches.items in
+    let cache = c.index_mut-cache.result.now in
     let l : f < length h.faces = (let m = ap length e in let t = c.loop-face-test.true in let k = c.requires.key.at_most in omega (arith, m, t, k)) in
-    let patch : shelf ≡ patch_at h f = c.index_mut-shelf.ensures.value ∙ ap (λ (xs : List Patch). get_or xs f shelf) (c.loop-face.invariant.0 ∙ c.requires.patches) ∙ patch_is h f shelf l in (
-      place_same shelves f c.add_kept.new.shelf shelf c.in_ok-add_kept.ensures.patch c.index_mut-shelf.ensures.value ∙ c.loop-face.invariant.0,
-      shelved_step h c.args.key.now c.as_slice-numbers.result.now f (get_or c.as_slice-numbers.result.now f 0) shelf c.loop-face.rows c.add_kept.new.rows e c.loop-face-test.true refl patch c.in_ok-add_kept.ensures.rows c.loop-face.invariant.1,
+    let patch : cache ≡ patch_at h f = c.index_mut-cache.ensures.value ∙ ap (λ (xs : List Patch). get_or xs f cache) (c.loop-face.invariant.0 ∙ c.requires.patches) ∙ patch_is h f cache l in (
+      place_same caches f c.add_kept.new.cache cache c.in_ok-add_kept.ensures.patch c.index_mut-cache.ensures.value ∙ c.loop-face.invariant.0,
+      shelved_step h c.args.key.now c.as_slice-numbers.result.now f (get_or c.as_slice-numbers.result.now f 0) cache c.loop-face.rows c.add_kept.new.rows e c.loop-face-test.true refl patch c.in_ok-add_kept.ensures.rows c.loop-face.invariant.1,
     )

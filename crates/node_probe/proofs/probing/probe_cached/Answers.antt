@@ -2,7 +2,7 @@ use Rattle.std.proofs.Common.{arith}
 use Rattle.node_probe.proofs.KeyLemmas.{match_some}
 use Rattle.node_probe.proofs.FindingLemmas.{key_few}
 use Rattle.node_probe.proofs.FollowedLemmas.{solution_judged, judged_out, found_out}
-use Rattle.node_probe.proofs.probing.probe_shelved.Goals as goal
+use Rattle.node_probe.proofs.probing.probe_cached.Goals as goal
 
 pub head_rows-requires-clause-few : goal.head_rows-requires-clause-few
 head_rows-requires-clause-few g c = let k = key_few c.args.geometry.now c.points.ensures.shape c.args.key.now c.requires.key in omega (arith, k)

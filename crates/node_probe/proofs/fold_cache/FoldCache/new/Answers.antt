@@ -1,8 +1,8 @@
 use Rattle.std.proofs.Common.{◌≤◌, ◌∙◌, ap, arith, length}
 use Rattle.std.proofs.Math.Facts.{Fits-below}
 use Rattle.ntfe_model.proofs.Counts.{faces_few}
-use Rattle.node_probe.proofs.ShelfLemmas.{patches_more}
-use Rattle.node_probe.proofs.shelf.Shelf.new.Goals as goal
+use Rattle.node_probe.proofs.FoldCacheLemmas.{patches_more}
+use Rattle.node_probe.proofs.fold_cache.FoldCache.new.Goals as goal
 
 pub overflow_cast-face : goal.overflow_cast-face
 overflow_cast-face c =
