@@ -9,7 +9,7 @@ pub mod Earlier
 pub mod Stops
 pub mod Codes
 pub mod Messages
-pub mod Parts
+pub mod Fragments
 pub mod Statuses
 pub mod Shown
 pub mod Dues

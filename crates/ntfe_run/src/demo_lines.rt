@@ -3,8 +3,8 @@ ghost use Rattle.std.specs.Prelude.{◌≡◌, unwrap_or, []};
 ghost use Rattle.io_edge.specs.Lines.{WritesText};
 ghost use Rattle.ntfe_run.specs.Demo.{size_lines, classes_line, last_line, demo_text};
 
-use crate::part::Part::{Number, Text};
-use crate::part::write_parts;
+use crate::fragment::Fragment::{Number, Text};
+use crate::fragment::write_fragments;
 use crate::pieces::write_numbers;
 use io_edge::{LineFault, Sink, write_text};
 use ntfe_model::{Choice, Geometry};
@@ -14,7 +14,7 @@ fn write_sizes<K: Sink>(number: u8, geometry: &Geometry, out: &mut K) -> Result<
     ensures { WritesText (K.taken out.old) (K.taken out.new) (K.faults out.old) (K.faults out.new) result (size_lines number geometry.now) }
 {
     let pair = geometry.pair();
-    write_parts(
+    write_fragments(
         &[
             Text("demo "),
             Number(u64::from(number)),
@@ -46,7 +46,7 @@ fn items(choice: &Option<Choice>) -> &[u32]
 fn write_classes_line<K: Sink>(count: u64, how: &str, out: &mut K) -> Result<(), LineFault>
     ensures { WritesText (K.taken out.old) (K.taken out.new) (K.faults out.old) (K.faults out.new) result (classes_line count how.now) }
 {
-    write_parts(
+    write_fragments(
         &[
             Text("classes "),
             Number(count),

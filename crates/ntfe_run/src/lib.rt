@@ -3,13 +3,13 @@
 
 mod commands;
 mod demo_lines;
+mod fragment;
 mod inputs;
 mod laws;
 mod list_task;
 mod listing;
 mod messages;
 mod numbered;
-mod part;
 mod pieces;
 mod reading;
 mod status;

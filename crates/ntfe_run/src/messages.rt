@@ -3,8 +3,8 @@ ghost use Rattle.std.specs.Prelude.{◌≡◌, ◌++◌, ℕ, List, codes, IfErr
 ghost use Rattle.io_edge.specs.Lines.{WritesText};
 ghost use Rattle.ntfe_run.specs.Messages.{text_message, pair_message, point_message, earlier_message, refusal_message, answer_message, message_line};
 
-use crate::part::Part::{Number, Signed, Text};
-use crate::part::write_parts;
+use crate::fragment::Fragment::{Number, Signed, Text};
+use crate::fragment::write_fragments;
 use crate::pieces::{
     write_earlier_line, write_equal, write_limit_message, write_line_message, write_other_facet,
     write_overflow_message,
@@ -59,7 +59,7 @@ impl Message for PairFault {
                 vertex,
                 facet,
                 product,
-            } => write_parts(
+            } => write_fragments(
                 &[
                     Text("vertex "),
                     Number(u64::from(vertex)),
@@ -70,7 +70,7 @@ impl Message for PairFault {
                 ],
                 err,
             ),
-            PairFault::NotFacet { facet } => write_parts(
+            PairFault::NotFacet { facet } => write_fragments(
                 &[
                     Text("dual vertex "),
                     Number(u64::from(facet)),
@@ -78,7 +78,7 @@ impl Message for PairFault {
                 ],
                 err,
             ),
-            PairFault::NotVertex { vertex } => write_parts(
+            PairFault::NotVertex { vertex } => write_fragments(
                 &[
                     Text("vertex "),
                     Number(u64::from(vertex)),
@@ -97,7 +97,7 @@ impl Message for PointFault {
 
     fn write<E: Sink>(&self, err: &mut E) -> Result<(), LineFault> {
         match self {
-            PointFault::TooWide { columns } => write_parts(
+            PointFault::TooWide { columns } => write_fragments(
                 &[
                     Text("box of "),
                     Number(u64::from(*columns)),
@@ -106,7 +106,7 @@ impl Message for PointFault {
                 err,
             ),
             PointFault::TooMany { count } => {
-                write_parts(&[Number(u64::from(*count)), Text(" points")], err)
+                write_fragments(&[Number(u64::from(*count)), Text(" points")], err)
             }
             PointFault::Memory => write_text("out of memory", err),
         }
@@ -132,7 +132,7 @@ impl Message for Refusal {
 
     fn write<E: Sink>(&self, err: &mut E) -> Result<(), LineFault> {
         match self {
-            Refusal::Size { limit } => write_parts(
+            Refusal::Size { limit } => write_fragments(
                 &[
                     Text("input over "),
                     Number(u64::from(*limit)),

@@ -4,8 +4,8 @@ ghost use Rattle.io_edge.specs.Lines.{WritesText};
 ghost use Rattle.ntfe_model.specs.RunText.{spaced};
 ghost use Rattle.ntfe_run.specs.Messages.{spaced_numbers, overflow_head, overflow_message, limit_message, line_message, equal_message, pair_message, earlier_line_message};
 
-use crate::part::Part::{Number, Signed, Text};
-use crate::part::write_parts;
+use crate::fragment::Fragment::{Number, Signed, Text};
+use crate::fragment::write_fragments;
 use io_edge::{LineFault, Sink};
 use ntfe_model::ITEM_LIMIT;
 use reflexive_pair::PairFault;
@@ -15,7 +15,7 @@ pub fn write_line_message<E: Sink>(number: u32, what: &str, err: &mut E) -> Resu
     ensures text { WritesText (E.taken err.old) (E.taken err.new) (E.faults err.old) (E.faults err.new) result (line_message number what.now) }
     ensures fault { IfErr result (λ e. e ≡ LineFault.Write) }
 {
-    write_parts(&[Text("line "), Number(u64::from(number)), Text(what)], err)
+    write_fragments(&[Text("line "), Number(u64::from(number)), Text(what)], err)
 }
 
 /// Writes which entries of a list are equal.
@@ -23,7 +23,7 @@ pub fn write_equal<E: Sink>(list: &str, i: u32, j: u32, err: &mut E) -> Result<(
     ensures text { WritesText (E.taken err.old) (E.taken err.new) (E.faults err.old) (E.faults err.new) result (equal_message list.now i j) }
     ensures fault { IfErr result (λ e. e ≡ LineFault.Write) }
 {
-    write_parts(
+    write_fragments(
         &[
             Text(list),
             Number(u64::from(i)),
@@ -46,7 +46,7 @@ pub fn write_other_facet<E: Sink>(
     ensures text { WritesText (E.taken err.old) (E.taken err.new) (E.faults err.old) (E.faults err.new) result (pair_message (PairFault.OtherFacet i j k l)) }
     ensures fault { IfErr result (λ e. e ≡ LineFault.Write) }
 {
-    write_parts(
+    write_fragments(
         &[
             Text("vertices "),
             Number(u64::from(i)),
@@ -67,7 +67,7 @@ pub fn write_earlier_line<E: Sink>(number: u32, what: &str, err: &mut E) -> Resu
     ensures text { WritesText (E.taken err.old) (E.taken err.new) (E.faults err.old) (E.faults err.new) result (earlier_line_message number what.now) }
     ensures fault { IfErr result (λ e. e ≡ LineFault.Write) }
 {
-    write_parts(
+    write_fragments(
         &[
             Text("earlier output line "),
             Number(u64::from(number)),
@@ -82,7 +82,7 @@ fn write_spaced<E: Sink>(number: u32, err: &mut E) -> Result<(), LineFault>
     ensures text { WritesText (E.taken err.old) (E.taken err.new) (E.faults err.old) (E.faults err.new) result (spaced (decimal number)) }
     ensures fault { IfErr result (λ e. e ≡ LineFault.Write) }
 {
-    write_parts(&[Text(" "), Number(u64::from(number))], err)
+    write_fragments(&[Text(" "), Number(u64::from(number))], err)
 }
 
 /// Writes numbers, one space before each.
@@ -101,7 +101,7 @@ fn write_overflow_head<E: Sink>(step: u64, number: i128, err: &mut E) -> Result<
     ensures text { WritesText (E.taken err.old) (E.taken err.new) (E.faults err.old) (E.faults err.new) result (overflow_head step number) }
     ensures fault { IfErr result (λ e. e ≡ LineFault.Write) }
 {
-    write_parts(
+    write_fragments(
         &[
             Text("overflow at step "),
             Number(step),
@@ -132,7 +132,7 @@ pub fn write_limit_message<E: Sink>(face: u32, err: &mut E) -> Result<(), LineFa
     ensures text { WritesText (E.taken err.old) (E.taken err.new) (E.faults err.old) (E.faults err.new) result (limit_message face) }
     ensures fault { IfErr result (λ e. e ≡ LineFault.Write) }
 {
-    write_parts(
+    write_fragments(
         &[
             Text("face "),
             Number(u64::from(face)),

@@ -7,5 +7,5 @@ use Rattle.ntfe_run.proofs.pieces.write_overflow_head.Goals as goal
 
 pub returns-clause-text : goal.returns-clause-text
 returns-clause-text g c =
-    let P : ℤ → Type 0 = λ z. WritesText (g.E.Sink.taken c.args.err.now) (g.E.Sink.taken c.write_parts.new.err) (g.E.Sink.faults c.args.err.now) (g.E.Sink.faults c.write_parts.new.err) c.write_parts.result (overflow_head c.args.step z) in
-    subst P (to_z-of_z w128 c.args.number c.ranges.number) c.write_parts.ensures.text
+    let P : ℤ → Type 0 = λ z. WritesText (g.E.Sink.taken c.args.err.now) (g.E.Sink.taken c.write_fragments.new.err) (g.E.Sink.faults c.args.err.now) (g.E.Sink.faults c.write_fragments.new.err) c.write_fragments.result (overflow_head c.args.step z) in
+    subst P (to_z-of_z w128 c.args.number c.ranges.number) c.write_fragments.ensures.text
