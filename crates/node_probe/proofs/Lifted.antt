@@ -1,10 +1,11 @@
 -- Folds that are positive at some heights do not cancel: the sum of positive multiples of them is positive.
-use Rattle.std.proofs.Common.{◌≡◌, ℕ, zero, suc, ◌<◌, ◌≤◌, sym, ap, ◌∙◌, subst, arith, ℤ, pos, negsuc, ◌+ℤ◌, ◌*ℤ◌, ◌<ℤ◌, List, [], ◌∷◌, length, map, get_or}
+use Rattle.std.proofs.Common.{◌≡◌, ℕ, ◌<◌, ◌≤◌, sym, ap, ◌∙◌, subst, arith, ℤ, pos, ◌+ℤ◌, ◌*ℤ◌, ◌<ℤ◌, List, [], ◌∷◌, length, map, get_or}
 use Rattle.std.specs.Prelude.{All, Option, Some}
 use Rattle.std.proofs.lemmas.Int.{ints}
 use Rattle.std.proofs.lemmas.List.{length-map, get_or-map}
 use Rattle.std.proofs.lemmas.List.Elements.{All-head, All-tail}
 use Rattle.std.proofs.lemmas.Option.{slice_get-get_or}
+use Rattle.ntfe_nums.proofs.Signs.{positive_some, positive_product, sum_positive}
 use Rattle.ntfe_model.specs.Shapes.{Shape, IsShape}
 use Rattle.ntfe_model.specs.Choices.{fold_value}
 use Rattle.ntfe_model.specs.Solver.{fold_row, IsInfeasible}
@@ -23,13 +24,6 @@ use Rattle.node_probe.proofs.Solutions.{folds_over}
 
 -- ---- sums of positive multiples
 
-positive_product : (x y : ℤ) → pos 0 <ℤ x → pos 0 <ℤ y → pos 0 <ℤ (x *ℤ y)
-positive_product (pos zero) y h k = absurd (omega (arith, ints, h))
-positive_product (pos (suc m)) (pos zero) h k = absurd (omega (arith, ints, k))
-positive_product (pos (suc m)) (pos (suc n)) h k = omega (arith, ints)
-positive_product (pos (suc m)) (negsuc n) h k = absurd (omega (arith, ints, k))
-positive_product (negsuc m) y h k = absurd (omega (arith, ints, h))
-
 -- each entry is of a row below n, so many times
 abbrev IsTimes : ℕ → ℕ × ℤ → Type 0
 IsTimes n e = (e.0 < n) × (pos 0 <ℤ e.1)
@@ -45,10 +39,7 @@ module _ (n : ℕ) (f : ℕ → ℤ) (each : (j : ℕ) → j < n → pos 0 <ℤ 
       last : (x : ℤ) → pos 0 <ℤ x → pos 0 <ℤ (x +ℤ pos 0)
       last x p = omega (arith, ints, p)
   weighted_positive (e ∷ d ∷ ms) l a =
-      both (e.1 *ℤ f e.0) (weighted (d ∷ ms) f) (product e (All-head (IsTimes n) e (d ∷ ms) a)) (weighted_positive (d ∷ ms) (omega arith) (All-tail (IsTimes n) e (d ∷ ms) a))
-    where
-      both : (x y : ℤ) → pos 0 <ℤ x → pos 0 <ℤ y → pos 0 <ℤ (x +ℤ y)
-      both x y p q = omega (arith, ints, p, q)
+      sum_positive (e.1 *ℤ f e.0) (weighted (d ∷ ms) f) (product e (All-head (IsTimes n) e (d ∷ ms) a)) (weighted_positive (d ∷ ms) (omega arith) (All-tail (IsTimes n) e (d ∷ ms) a))
 
 -- ---- folds
 
@@ -58,7 +49,7 @@ no_fold = record { a = 0; b = 0; c = 0; d = 0; alpha = pos 0; beta = pos 0 }
 -- the solver is not infeasible on folds that are positive at some heights
 pub lifted_not_infeasible : (n : ℕ) (width : Option ℕ) (rs : List Fold) (ms : List (ℕ × ℤ)) → AreFoldsOver n rs → AreLifted n rs → IsInfeasible n (map (fold_row n) rs) width ms → ⊥
 lifted_not_infeasible n width rs ms over (w, count, lifts) h =
-    clash (weighted ms value) (weighted_positive (length rows) value positive ms (infeasible-some n rows width ms (are_rows n rs) h) (infeasible-positive n rows width ms h))
+    positive_some (weighted ms value) (weighted_positive (length rows) value positive ms (infeasible-some n rows width ms (are_rows n rs) h) (infeasible-positive n rows width ms h))
     (infeasible-cancels n rows width ms (are_rows n rs) h w count)
   where
     rows : List (List ℤ)
@@ -66,9 +57,6 @@ lifted_not_infeasible n width rs ms over (w, count, lifts) h =
 
     value : ℕ → ℤ
     value j = combination (get_or rows j []) w
-
-    clash : (x : ℤ) → pos 0 <ℤ x → x ≡ pos 0 → ⊥
-    clash x l q = absurd (omega (arith, ints, l, q))
 
     positive : (j : ℕ) → j < length rows → pos 0 <ℤ value j
     positive j l =

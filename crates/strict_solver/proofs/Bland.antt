@@ -5,7 +5,7 @@
 use Rattle.std.proofs.Common.{◌≡◌, ℕ, ◌<◌, ◌≤◌, ◌⊎◌, inl, inr, refl, sym, ap, ◌∙◌, subst, arith, ℤ, List, [], ◌∷◌, length, get_or, Some, None, Option}
 use Rattle.ntfe_model.specs.Solver.{Line, IsPivot}
 use Rattle.strict_solver.specs.Equations.{Holds}
-use Rattle.strict_solver.proofs.Pivots.{IsTable, pivot-table, pivot-holds, pivot-held, pivot-gone, pivot-kept, pivot-basic, pivot-left, pivot-leaving, pivot-entering}
+use Rattle.strict_solver.proofs.Pivots.{IsTable, pivot-table, pivot-holds, pivot-held, pivot-gone, pivot-kept, pivot-before, pivot-basic, pivot-left, pivot-leaving, pivot-entering}
 use Rattle.strict_solver.proofs.Moves.{IsMove, first_slack-found, entering-found, IsGone}
 use Rattle.strict_solver.proofs.Values.{bland}
 use Rattle.strict_solver.proofs.Entries.{basic_or_not, not_both}
@@ -41,11 +41,7 @@ step-table columns bound s t m w = pivot-table m.x m.y s t m.is w
 pub step-loaded : (columns bound : ℕ) (s t : Lines) → IsMovingStep columns bound s t → IsTable s → columns ≤ length s → IsLoaded columns s → IsLoaded columns t
 step-loaded columns bound s t m w c l k h e =
     let r = row-of columns m.x m.y s m.move in
-    pivot-gone m.x m.y s t m.is w columns k h r.0 (λ i. let a = r.1 in omega arith) (omega arith) (l k h (by (basic_or_not (get_or s k None))))
-  where
-    by : ((q : Line) × (get_or s k None ≡ Some q)) ⊎ (get_or s k None ≡ None) → get_or s k None ≡ None
-    by (inl g) = let n = pivot-kept m.x m.y s t m.is k g.0 g.1 (λ i. let r = row-of columns m.x m.y s m.move in let a = r.0 in omega arith) in absurd (not_both _ n.0 n.1 e)
-    by (inr g) = g
+    pivot-gone m.x m.y s t m.is w columns k h r.0 (λ i. let a = r.1 in omega arith) (omega arith) (l k h (pivot-before m.x m.y s t m.is k e (λ i. let a = r.0 in omega arith)))
 
 pub moving-table : (columns bound : ℕ) (s : Lines) (ts : List (List (Option Line))) (t : Lines) → IsMoving columns bound s ts t → IsTable s → IsTable t
 moving-table columns bound s [] t m w = let P : Lines → Type 0 = λ r. IsTable r in subst P m w

@@ -6,7 +6,7 @@ use Rattle.std.specs.Prelude.{find, nat_le, int_lt, is_none}
 use Rattle.std.specs.Option.{option_map_or, option_and_then}
 use Rattle.std.specs.Ordering.{int_eq}
 use Rattle.std.specs.List.{range_with_len}
-use Rattle.std.proofs.lemmas.Bool.Decides.{nat_tests}
+use Rattle.ntfe_nums.proofs.Comparisons.{not_le}
 use Rattle.std.proofs.lemmas.List.{get_or_past}
 use Rattle.ntfe_model.specs.Solver.{Line, coefficient_at, first_slack, next_load, first_negative, first_entering, moving}
 use Rattle.ntfe_model.specs.Solver.Move.{pivot, feasible, infeasible}
@@ -54,9 +54,6 @@ and3_false true true = refl
 and3_false true false = refl
 and3_false false true = refl
 and3_false false false = refl
-
-not_le : (m n : ℕ) → n < m → nat_le m n ≡ false
-not_le m n h = grind (arith, nat_tests)
 
 module _ (columns : ℕ) (s u : List (Option Line)) (e : ℕ) (w : IsTable s) (cs : columns ≤ length s) (f : Follows columns s u e) where
   pub last_or : (e ≢ length s) → get_or u (length s) None ≡ None

@@ -15,12 +15,12 @@ use Rattle.ntfe_model.specs.Solver.{Line, Table, coefficient_at, IsPivot, start_
 use Rattle.ntfe_model.specs.Solver.Move.{pivot, feasible, infeasible}
 use Rattle.strict_solver.specs.Continuing.{wider, wider_line, IsLowest}
 use Rattle.strict_solver.proofs.Moves.{IsIn, loads, moves_same, first_slack-found, next_load-found, moving-pivot, move_of-pivot, move_of-feasible, move_of-infeasible, moving-infeasible, IsGone, IsLoad, IsFirstSlack}
-use Rattle.strict_solver.proofs.Pivots.{IsTable, get_here, get_there, pivot-table, run-table, run-length}
+use Rattle.strict_solver.proofs.Pivots.{IsTable, get_here, get_there, pivot-table, run-table, run-length, AreLowest, pivot-lowest}
 use Rattle.strict_solver.proofs.Runs.{AreRows, start_lines, start-get, start-at, start-length, start-is_table, IsLoading, start-loading, step-loading}
 use Rattle.strict_solver.proofs.Multipliers.{more_left}
 use Rattle.strict_solver.proofs.Steps.{step_lines}
 use Rattle.strict_solver.proofs.Wider.{zero_after}
-use Rattle.strict_solver.proofs.Following.{Follows, AreLowest, pivot-lowest, pivot-follows, load-follows}
+use Rattle.strict_solver.proofs.Following.{Follows, pivot-follows, load-follows}
 use Rattle.strict_solver.proofs.Chosen.{IsLastLoad, next_follows, moving_follows}
 use Rattle.strict_solver.proofs.Entries.{both_some, none_of}
 

@@ -9,13 +9,13 @@ use Rattle.ntfe_model.specs.Solver.{Line, Table, coefficient_at, start_table, ne
 use Rattle.ntfe_model.specs.Solver.Move.{feasible}
 use Rattle.strict_solver.specs.Equations.{combination, LineHolds, Holds}
 use Rattle.strict_solver.specs.Continuing.{wider, wider_line, IsLowest, IsLineFor, with_row}
-use Rattle.strict_solver.proofs.Pivots.{IsLineOf, IsTable, in_table, pivot-held}
+use Rattle.strict_solver.proofs.Pivots.{IsLineOf, IsTable, in_table, pivot-held, AreLowest, pivot-lowest}
 use Rattle.strict_solver.proofs.Moves.{move_of-feasible}
 use Rattle.strict_solver.proofs.Bland.{IsLoaded}
 use Rattle.strict_solver.proofs.Runs.{AreRows, start-length, start-is_table, start-loading, run-loading, end-loaded}
 use Rattle.strict_solver.proofs.Steps.{step_lines}
 use Rattle.strict_solver.proofs.Wider.{zero_after, wider-lowest}
-use Rattle.strict_solver.proofs.Following.{Follows, AreLowest, pivot-lowest, load-follows}
+use Rattle.strict_solver.proofs.Following.{Follows, load-follows}
 use Rattle.strict_solver.proofs.GoingOn.{start-lowest, rows_short, GoesOn, end-length, end-table}
 use Rattle.strict_solver.proofs.Deciding.{last-get, wider-sum, end-extends, loads-least, loads-none}
 use Rattle.strict_solver.proofs.Unique.{cancel, same-tables}

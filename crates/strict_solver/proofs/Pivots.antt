@@ -1,19 +1,23 @@
 -- A pivot keeps the solutions of the rows.
 --     IsTable s               each row has a coefficient for each variable, a positive d, and 0 at the basic variables
 --     Holds one values s      all rows hold at these values, where `one` stands for the number 1
+--     pivot-new, pivot-left, pivot-free, pivot-put      what stands where after a pivot
+--     pivot-rows              what holds of all rows after it
 --     pivot-table, pivot-holds, pivot-held      IsTable stays, and the rows after hold exactly where the rows before do
 --     run-table, run-length, run-holds, run-held      the same of a run
-use Rattle.std.proofs.Common.{◌≡◌, ◌≢◌, ℕ, zero, suc, ◌<◌, ◌≤◌, ◌⊎◌, inl, inr, min, refl, sym, ap, ◌∙◌, subst, arith, ℤ, pos, ◌+ℤ◌, ◌*ℤ◌, neg_ℤ, ◌<ℤ◌, List, [], ◌∷◌, map, length, get_or, set, length-set, get_or-set_same, get_or-set_other, Some, None, Option}
-use Rattle.std.specs.Prelude.{zip, slice_get}
-use Rattle.std.proofs.lemmas.List.{get_or-map}
+use Rattle.std.proofs.Common.{◌≡◌, ◌≢◌, ℕ, zero, suc, ◌<◌, ◌≤◌, ◌⊎◌, inl, inr, ⊎_elim, min, refl, sym, ap, ◌∙◌, subst, arith, ℤ, pos, ◌+ℤ◌, ◌*ℤ◌, neg_ℤ, ◌<ℤ◌, List, [], ◌∷◌, map, length, get_or, set, length-set, get_or-set_same, get_or-set_other, Some, None, Option}
+use Rattle.std.specs.Prelude.{zip, slice_get, is_none}
+use Rattle.std.proofs.lemmas.List.{get_or-map, get_or_past}
 use Rattle.std.proofs.lemmas.Slice.Zip.{length-zip, get_or-zip}
 use Rattle.ntfe_nums.specs.Vectors.{sign}
 use Rattle.ntfe_model.specs.Solver.{Line, Table, coefficient_at, solved_for, with_put_in, IsReduced, IsNextLine, IsPivot, IsRun}
 use Rattle.ntfe_nums.proofs.Ring.{product_zero, zero_product}
+use Rattle.ntfe_nums.proofs.Signs.{same_or}
 use Rattle.strict_solver.specs.Equations.{LineHolds, Holds}
+use Rattle.strict_solver.specs.Continuing.{IsLowest}
 use Rattle.strict_solver.proofs.Moves.{IsGone}
 use Rattle.strict_solver.proofs.Forms.{length_mapped, zero_factor, reduced_parts, solved_for-holds, reduced-holds, with_put_in-holds, pos_some}
-use Rattle.strict_solver.proofs.Entries.{both_some}
+use Rattle.strict_solver.proofs.Entries.{basic_or_not, not_both, both_some}
 
 pub record IsLineOf (s : List (Option Line)) (r : Line) : Type 0 where
   pub count : length r.coefficients ≡ length s
@@ -22,6 +26,10 @@ pub record IsLineOf (s : List (Option Line)) (r : Line) : Type 0 where
 
 abbrev pub IsTable : List (Option Line) → Type 0
 IsTable s = (z : ℕ) (r : Line) → get_or s z None ≡ Some r → IsLineOf s r
+
+-- each line is in lowest form
+abbrev pub AreLowest : List (Option Line) → Type 0
+AreLowest s = (z : ℕ) (r : Line) → get_or s z None ≡ Some r → IsLowest r
 
 pub in_table : (s : List (Option Line)) (z : ℕ) (r : Line) → get_or s z None ≡ Some r → z < length s
 in_table [] z r e = cc
@@ -130,25 +138,61 @@ module _ (x y : ℕ) (s t : List (Option Line)) (p : IsPivot x y s t) where
       by (inr (inr (inl h))) = h.3
       by (inr (inr (inr h))) = absurd (h.2 refl)
 
+  -- another variable that is not basic stays so
+  pub pivot-free : (z : ℕ) → get_or s z None ≡ None → z ≢ y → get_or t z None ≡ None
+  pivot-free z e n = at (let c : (z < length s) ⊎ (length s ≤ z) = grind arith in c)
+    where
+      by : IsNextLine x y p.new z (get_or s z None) (get_or t z None) → get_or t z None ≡ None
+      by (inl h) = h.1
+      by (inr (inl h)) = absurd (n h.0)
+      by (inr (inr (inl h))) = h.3
+      by (inr (inr (inr h))) = absurd (not_both _ h.0 h.4 e)
+
+      at : (z < length s) ⊎ (length s ≤ z) → get_or t z None ≡ None
+      at (inl l) = by (p.lines z l)
+      at (inr l) = get_or_past t z None (let c = p.length_same in omega arith)
+
+  -- into a row that does not leave the new one is put
+  pub pivot-put : (z : ℕ) (q : Line) → get_or s z None ≡ Some q → z ≢ x → (r : Line) × (get_or t z None ≡ Some r) × IsReduced (with_put_in q y p.new) r
+  pivot-put z q e n = by (p.lines z (in_table s z q e))
+    where
+      by : IsNextLine x y p.new z (get_or s z None) (get_or t z None) → (r : Line) × (get_or t z None ≡ Some r) × IsReduced (with_put_in q y p.new) r
+      by (inl h) = absurd (n h.0)
+      by (inr (inl h)) = absurd (not_both _ q (ap (λ k. get_or s k None) (sym h.0) ∙ e) pivot-entering.0)
+      by (inr (inr (inl h))) = absurd (not_both _ q e h.2)
+      by (inr (inr (inr h))) = let P : Line → Type 0 = λ k. IsReduced (with_put_in k y p.new) h.1 in (h.1, h.5, subst P (both_some _ h.0 q h.4 e) h.6)
+
+  -- a basic variable that does not leave stays, and no other than y has come
+  pub pivot-kept : (z : ℕ) (q : Line) → get_or s z None ≡ Some q → z ≢ x → (r : Line) × (get_or t z None ≡ Some r)
+  pivot-kept z q e n = let h = pivot-put z q e n in (h.0, h.1)
+
+  pub pivot-before : (z : ℕ) → get_or t z None ≡ None → z ≢ x → get_or s z None ≡ None
+  pivot-before z e n = ⊎_elim (λ h. absurd (let k = pivot-kept z h.0 h.1 n in not_both _ k.0 k.1 e)) (λ h. h) (basic_or_not (get_or s z None))
+
+  -- what holds of the new row and of each row that it is put into holds of all rows after
+  pub pivot-rows : (P : ℕ → Line → Type 0) → P y p.new → ((z : ℕ) (q r : Line) → z ≢ x → get_or s z None ≡ Some q → IsReduced (with_put_in q y p.new) r → P z r)
+      → (z : ℕ) (r : Line) → get_or t z None ≡ Some r → P z r
+  pivot-rows P own put z r e = by (p.lines z (let h = in_table t z r e in let l = p.length_same in omega arith))
+    where
+      by : IsNextLine x y p.new z (get_or s z None) (get_or t z None) → P z r
+      by (inl h) = absurd (not_both _ r e h.1)
+      by (inr (inl h)) = subst (λ k. P k r) (sym h.0) (subst (P y) (both_some _ p.new r h.1 e) own)
+      by (inr (inr (inl h))) = absurd (not_both _ r e h.3)
+      by (inr (inr (inr h))) = subst (P z) (both_some _ h.1 r h.5 e) (put z h.0 h.1 h.2 h.4 h.6)
+
   -- another variable is basic after as before
   pub pivot-basic : (b : ℕ) (r : Line) → get_or t b None ≡ Some r → (b ≢ x) × ((b ≡ y) ⊎ ((q : Line) × (get_or s b None ≡ Some q)))
-  pivot-basic b r e = by (p.lines b (let h = in_table t b r e in let l = p.length_same in omega arith))
-    where
-      by : IsNextLine x y p.new b (get_or s b None) (get_or t b None) → (b ≢ x) × ((b ≡ y) ⊎ ((q : Line) × (get_or s b None ≡ Some q)))
-      by (inl h) = let g = h.1 in cc
-      by (inr (inl h)) = ((λ g. pivot-apart (sym g ∙ h.0)), inl h.0)
-      by (inr (inr (inl h))) = let g = h.3 in cc
-      by (inr (inr (inr h))) = (h.2, inr (h.0, h.4))
+  pivot-basic = pivot-rows (λ b r. (b ≢ x) × ((b ≡ y) ⊎ ((q : Line) × (get_or s b None ≡ Some q)))) ((λ e. pivot-apart (sym e)), inl refl) (λ z q r n e i. (n, inr (q, e)))
 
-  -- a basic variable that does not leave stays
-  pub pivot-kept : (b : ℕ) (q : Line) → get_or s b None ≡ Some q → b ≢ x → (r : Line) × (get_or t b None ≡ Some r)
-  pivot-kept b q e n = by (p.lines b (in_table s b q e))
+  pub pivot-none : (z : ℕ) → z ≢ x → z ≢ y → is_none (get_or t z None) ≡ is_none (get_or s z None)
+  pivot-none z nx ny = by (basic_or_not (get_or s z None))
     where
-      by : IsNextLine x y p.new b (get_or s b None) (get_or t b None) → (r : Line) × (get_or t b None ≡ Some r)
-      by (inl h) = absurd (n h.0)
-      by (inr (inl h)) = (p.new, h.1)
-      by (inr (inr (inl h))) = let g = h.2 in cc
-      by (inr (inr (inr h))) = (h.1, h.5)
+      by : ((q : Line) × (get_or s z None ≡ Some q)) ⊎ (get_or s z None ≡ None) → is_none (get_or t z None) ≡ is_none (get_or s z None)
+      by (inl h) = ap is_none (pivot-put z h.0 h.1 nx).1 ∙ ap is_none (sym h.1)
+      by (inr h) = ap is_none (pivot-free z h ny ∙ sym h)
+
+  pub pivot-lowest : AreLowest s → AreLowest t
+  pivot-lowest w = pivot-rows (λ z r. IsLowest r) p.solved.lowest (λ z q r n e i. i.lowest)
 
   module _ (w : IsTable s) where
     new-count : length p.new.coefficients ≡ length s
@@ -196,17 +240,11 @@ module _ (x y : ℕ) (s t : List (Option Line)) (p : IsPivot x y s t) where
             by (inr g) = inr (i.zeros b g.0 g.1)
 
     pub pivot-table : IsTable t
-    pivot-table z r e = by (p.lines z (let h = in_table t z r e in let l = p.length_same in omega arith))
-      where
-        by : IsNextLine x y p.new z (get_or s z None) (get_or t z None) → IsLineOf t r
-        by (inl h) = let g = h.1 in cc
-        by (inr (inl h)) = let P : Line → Type 0 = λ k. IsLineOf t k in subst P (both_some _ p.new r h.1 e) new-line
-        by (inr (inr (inl h))) = let g = h.3 in cc
-        by (inr (inr (inr h))) = let P : Line → Type 0 = λ k. IsLineOf t k in subst P (both_some _ h.1 r h.5 e) (other-line h.0 h.1 (w z h.0 h.4) h.6)
+    pivot-table = pivot-rows (λ z r. IsLineOf t r) new-line (λ z q r n e i. other-line q r (w z q e) i)
 
     -- a height that no slack has, and that is not basic, stays so
     pub pivot-gone : (columns k : ℕ) → k < columns → columns ≤ x → k ≢ y → k < length s → IsGone columns s k → IsGone columns t k
-    pivot-gone columns k lk cx cy ls g z r cz lz e = by (p.lines z (let l = p.length_same in omega arith))
+    pivot-gone columns k lk cx cy ls g z r cz lz e = pivot-rows (λ z r. columns ≤ z → coefficient_at r k ≡ pos 0) (λ c. new-gone) (λ z q o n f h c. other-gone z q o c f h) z r e cz
       where
         apart : {j : ℕ} → columns ≤ j → k ≢ j
         apart {j} c h = omega arith
@@ -217,8 +255,8 @@ module _ (x y : ℕ) (s t : List (Option Line)) (p : IsPivot x y s t) where
             let n = (w x p.row pivot-leaving.0).count in
             reduced-coefficient _ p.new p.solved k (omega arith) (solved-coefficient p.row x y k (λ h. apart cx h) (omega arith) (inr (g x p.row cx pivot-leaving.1 pivot-leaving.0)))
 
-        other-gone : (q o : Line) → get_or s z None ≡ Some q → IsReduced (with_put_in q y p.new) o → coefficient_at o k ≡ pos 0
-        other-gone q o f h =
+        other-gone : (z : ℕ) (q o : Line) → columns ≤ z → get_or s z None ≡ Some q → IsReduced (with_put_in q y p.new) o → coefficient_at o k ≡ pos 0
+        other-gone z q o cz f h =
             let i = w z q f in
             let ci = i.count in
             let c = reduced-count _ o h ∙ put_in-count q i.count in
@@ -226,12 +264,6 @@ module _ (x y : ℕ) (s t : List (Option Line)) (p : IsPivot x y s t) where
             reduced-coefficient _ o h k (omega arith)
             (coefficient-put_in q p.new y k (omega arith) (omega arith)
             ∙ zero_sum p.new.d (coefficient_at q y) _ _ (zero_set q.coefficients y k (inr (g z q cz (in_table s z q f) f))) new-gone)
-
-        by : IsNextLine x y p.new z (get_or s z None) (get_or t z None) → coefficient_at r k ≡ pos 0
-        by (inl h) = let f = h.1 in cc
-        by (inr (inl h)) = ap (λ q. coefficient_at q k) (sym (both_some _ p.new r h.1 e)) ∙ new-gone
-        by (inr (inr (inl h))) = let f = h.3 in cc
-        by (inr (inr (inr h))) = ap (λ q. coefficient_at q k) (sym (both_some _ h.1 r h.5 e)) ∙ other-gone h.0 h.1 h.4 h.6
 
     module _ (one : ℤ) (vs : List ℤ) (l : length vs ≡ length s) where
       in_values : (k : ℕ) → k < length s → k < length vs
@@ -253,36 +285,20 @@ module _ (x y : ℕ) (s t : List (Option Line)) (p : IsPivot x y s t) where
 
       -- where the rows before hold, those after do
       pub pivot-holds : Holds one vs s → Holds one vs t
-      pivot-holds all z r e = by (p.lines z (let h = in_table t z r e in let k = p.length_same in omega arith))
-        where
-          n : LineHolds one vs y p.new
-          n = row-holds.0 (all x p.row pivot-leaving.0)
-
-          by : IsNextLine x y p.new z (get_or s z None) (get_or t z None) → LineHolds one vs z r
-          by (inl h) = let g = h.1 in cc
-          by (inr (inl h)) =
-              let P : Line → Type 0 = λ k. LineHolds one vs z k in
-              let Q : ℕ → Type 0 = λ k. LineHolds one vs k p.new in
-              subst P (both_some _ p.new r h.1 e) (subst Q (sym h.0) n)
-          by (inr (inr (inl h))) = let g = h.3 in cc
-          by (inr (inr (inr h))) = let P : Line → Type 0 = λ k. LineHolds one vs z k in subst P (both_some _ h.1 r h.5 e) ((other-holds z h.0 h.1 h.4 h.6 n).0 (all z h.0 h.4))
+      pivot-holds all = let n = row-holds.0 (all x p.row pivot-leaving.0) in pivot-rows (LineHolds one vs) n (λ z q r a e h. (other-holds z q r e h n).0 (all z q e))
 
       -- where the rows after hold, those before do
       pub pivot-held : Holds one vs t → Holds one vs s
-      pivot-held all z q e = by (p.lines z (in_table s z q e))
+      pivot-held all z q e = by (same_or z x)
         where
           n : LineHolds one vs y p.new
           n = all y p.new pivot-new
 
-          by : IsNextLine x y p.new z (get_or s z None) (get_or t z None) → LineHolds one vs z q
+          by : (z ≡ x) ⊎ (z ≢ x) → LineHolds one vs z q
           by (inl h) =
-              let P : Line → Type 0 = λ k. LineHolds one vs z k in
-              let Q : ℕ → Type 0 = λ k. LineHolds one vs k p.row in
-              let R : ℕ → Type 0 = λ k. get_or s k None ≡ Some q in
-              subst P (both_some _ p.row q pivot-leaving.0 (subst R h.0 e)) (subst Q (sym h.0) (row-holds.1 n))
-          by (inr (inl h)) = let R : ℕ → Type 0 = λ k. get_or s k None ≡ Some q in let a = subst R h.0 e in let b = pivot-entering.0 in cc
-          by (inr (inr (inl h))) = let g = h.2 in cc
-          by (inr (inr (inr h))) = let P : Line → Type 0 = λ k. LineHolds one vs z k in subst P (both_some _ h.0 q h.4 e) ((other-holds z h.0 h.1 h.4 h.6 n).1 (all z h.1 h.5))
+              let P : ℕ → Type 0 = λ k. LineHolds one vs k q in
+              subst P (sym h) (subst (LineHolds one vs x) (both_some _ p.row q pivot-leaving.0 (ap (λ k. get_or s k None) (sym h) ∙ e)) (row-holds.1 n))
+          by (inr a) = let h = pivot-put z q e a in (other-holds z q h.0 e h.2 n).1 (all z h.0 h.1)
 
 -- ---- runs
 pub run-length : (columns : ℕ) (s : Table) (ts : List Table) (t : Table) → IsRun columns s ts t → length t.lines ≡ length s.lines

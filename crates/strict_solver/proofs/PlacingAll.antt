@@ -1,6 +1,7 @@
 -- The places of the start, one after the other.
 use Rattle.std.proofs.Common.{◌≡◌, ℕ, zero, suc, ◌+◌, ◌-◌, ◌<◌, ◌≤◌, ◌⊎◌, inl, inr, refl, sym, ap, ◌∙◌, arith, List, [], ◌∷◌, ◌++◌, length, Some}
 use Rattle.std.specs.Prelude.{slice_get, vec_capacity}
+use Rattle.std.proofs.lemmas.List.{length-append}
 use Rattle.strict_solver.specs.declared.place.Place.{Place}
 use Rattle.strict_solver.specs.declared.place.Place.TheVariants.{Row, Column}
 use Rattle.strict_solver.specs.declared.grid.Grid.{Grid}
@@ -27,17 +28,13 @@ push_before [] y x i e = cc
 push_before (z ∷ xs) y x zero e = e
 push_before (z ∷ xs) y x (suc i) e = push_before xs y x i e
 
-push_count : {X : Type 0} (xs : List X) (y : X) → length (xs ++ y ∷ []) ≡ length xs + 1
-push_count [] y = refl
-push_count (x ∷ xs) y = let h = push_count xs y in omega arith
-
 pub nothing_placed : (ps : List Place) → ps ≡ [] → IsStartPlacing 0 0 ps
 nothing_placed [] e = record { count = omega arith; heights = λ k l. absurd (omega arith); slacks = λ r l. absurd (omega arith) }
 nothing_placed (p ∷ ps) e = cc
 
 pub push_height : (k : ℕ) (ps : List Place) → IsStartPlacing k 0 ps → IsStartPlacing (k + 1) 0 (ps ++ Column (k + 2) ∷ [])
 push_height k ps h = record {
-  count = (let c = push_count ps (Column (k + 2)) in let d = h.count in omega arith);
+  count = (let c = length-append ps (Column (k + 2) ∷ []) in let d = h.count in omega arith);
   heights = λ j l. at j (let c : (j < k) ⊎ (j ≡ k) = grind arith in c);
   slacks = λ r l. absurd (omega arith);
 }
@@ -48,7 +45,7 @@ push_height k ps h = record {
 
 pub push_slack : (n r : ℕ) (ps : List Place) → IsStartPlacing n r ps → IsStartPlacing n (r + 1) (ps ++ Row r ∷ [])
 push_slack n r ps h = record {
-  count = (let c = push_count ps (Row r) in let d = h.count in omega arith);
+  count = (let c = length-append ps (Row r ∷ []) in let d = h.count in omega arith);
   heights = λ k l. push_before ps (Row r) (Column (k + 2)) k (h.heights k l);
   slacks = λ j l. at j (let c : (j < r) ⊎ (j ≡ r) = grind arith in c);
 }

@@ -1,5 +1,5 @@
 -- One more pivot of a run.
-use Rattle.std.proofs.Common.{◌≡◌, ℕ, zero, suc, ◌+◌, ◌-◌, ◌^◌, ◌<◌, ◌≤◌, ◌⊎◌, inl, inr, min, not, refl, sym, ap, ◌∙◌, subst, arith, ℤ, pos, List, [], ◌∷◌, ◌++◌, length, get_or, Option, Some, None}
+use Rattle.std.proofs.Common.{◌≡◌, ℕ, zero, suc, ◌+◌, ◌-◌, ◌^◌, ◌<◌, ◌≤◌, ◌⊎◌, inl, inr, min, not, refl, sym, ap, ◌∙◌, subst, arith, ℤ, pos, List, [], ◌∷◌, ◌++◌, length, get_or, Option, Some, None, length-append}
 use Rattle.std.specs.Prelude.{slice_get, flat_map}
 use Rattle.std.specs.Option.{option_map_or}
 use Rattle.std.specs.Ordering.{int_eq}
@@ -63,10 +63,6 @@ run-last : (columns : ℕ) (s : Table) (ts : List Table) (t : Table) → IsRun c
 run-last columns s [] t m = ap Some m
 run-last columns s (r ∷ ts) t m = run-last columns r ts t m.1
 
-push-length : (ts : List Table) (u : Table) → length (ts ++ u ∷ []) ≡ length ts + 1
-push-length [] u = refl
-push-length (t ∷ ts) u = let h = push-length ts u in omega arith
-
 front_of : (ts : List Table) (u : Table) (k : ℕ) → k < length ts → slice_get (ts ++ u ∷ []) k ≡ slice_get ts k
 front_of [] u k l = absurd (omega arith)
 front_of (t ∷ ts) u zero l = refl
@@ -76,7 +72,7 @@ module _ (columns width : ℕ) (rs : List (List ℤ)) (steps : ℕ) (t u : Table
   pub reaches_more : Reaches columns rs (Some width) (steps + 1) u
   reaches_more = record {
     tables = r.tables ++ u ∷ [];
-    count = push-length r.tables u ∙ ap (λ n. n + 1) r.count;
+    count = length-append r.tables (u ∷ []) ∙ ap (λ n. n + 1) r.count;
     run = run-push columns (start_table columns rs) r.tables t u r.run k;
     narrow = λ j s l e. at j s e (let c : (j < steps) ⊎ (j ≡ steps) = grind arith in c);
   }

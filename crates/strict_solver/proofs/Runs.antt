@@ -6,10 +6,10 @@ use Rattle.std.proofs.Common.{◌≡◌, ◌≢◌, ℕ, zero, suc, ◌+◌, ◌
 use Rattle.std.proofs.lemmas.Int.{ints}
 use Rattle.std.specs.List.{range_with_len}
 use Rattle.ntfe_model.specs.Solver.{Line, Table, Move, start_line, start_table, next_load, moving, IsStepOf, IsRun}
-use Rattle.strict_solver.proofs.Pivots.{IsLineOf, IsTable, pivot-table, pivot-gone, pivot-kept, pivot-new}
+use Rattle.strict_solver.proofs.Pivots.{IsLineOf, IsTable, pivot-table, pivot-gone, pivot-before, pivot-new}
 use Rattle.strict_solver.proofs.Moves.{IsGone, IsIn, IsLoad, next_load-found, no_next_load, move_of-pivot, moving-pivot, first_slack-found}
 use Rattle.strict_solver.proofs.Bland.{IsMovingStep, IsMoving, IsLoaded, IsBasic, no_return}
-use Rattle.strict_solver.proofs.Entries.{basic_or_not, not_both, line_or}
+use Rattle.strict_solver.proofs.Entries.{not_both, line_or}
 
 abbrev pub AreRows : ℕ → List (List ℤ) → Type 0
 AreRows columns rs = (j : ℕ) → j < length rs → length (get_or rs j []) ≡ columns
@@ -85,11 +85,7 @@ step-loading columns s t m w c l k h e = by (move_of-pivot columns s m.0 m.1 t.t
     apart i = let P : ℕ → Type 0 = λ z. get_or t.lines z None ≡ None in not_both _ m.3.new (pivot-new m.0 m.1 s.lines t.lines m.3) (subst P i e)
 
     empty : columns ≤ m.0 → get_or s.lines k None ≡ None
-    empty a = at (basic_or_not (get_or s.lines k None))
-      where
-        at : ((q : Line) × (get_or s.lines k None ≡ Some q)) ⊎ (get_or s.lines k None ≡ None) → get_or s.lines k None ≡ None
-        at (inl g) = let n = pivot-kept m.0 m.1 s.lines t.lines m.3 k g.0 g.1 (λ i. omega arith) in absurd (not_both _ n.0 n.1 e)
-        at (inr g) = g
+    empty a = pivot-before m.0 m.1 s.lines t.lines m.3 k e (λ i. omega arith)
 
     goes : columns ≤ m.0 → IsGone columns s.lines k → IsGone columns t.lines k
     goes a g = pivot-gone m.0 m.1 s.lines t.lines m.3 w columns k h a apart (omega arith) g

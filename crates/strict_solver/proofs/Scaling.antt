@@ -1,5 +1,5 @@
 -- The scaling of a table.
-use Rattle.std.proofs.Common.{◌≡◌, ℕ, zero, suc, ◌+◌, ◌*◌, ◌^◌, ◌<◌, ◌≤◌, ◌⊎◌, inl, inr, true, false, refl, sym, ap, ◌∙◌, subst, arith, ℤ, pos, ◌*ℤ◌, ◌<ℤ◌, List, [], ◌∷◌, map, take, length, get_or, unsigned_abs, nat_le, Option, Some, None}
+use Rattle.std.proofs.Common.{◌≡◌, ℕ, zero, suc, ◌+◌, ◌*◌, ◌^◌, ◌<◌, ◌≤◌, ◌⊎◌, inl, inr, true, refl, sym, ap, ◌∙◌, subst, arith, ℤ, pos, ◌*ℤ◌, ◌<ℤ◌, List, [], ◌∷◌, map, take, length, get_or, unsigned_abs, nat_le, Option, Some, None}
 use Rattle.std.specs.Prelude.{slice_get}
 use Rattle.std.specs.Int.{◌∣◌}
 use Rattle.std.specs.List.{range_with_len}
@@ -15,6 +15,7 @@ use Rattle.strict_solver.proofs.Pivots.{IsTable}
 use Rattle.strict_solver.proofs.Wide.{wide_first, narrow_first}
 use Rattle.strict_solver.proofs.Denominators.{reduced_positive, whole_when, whole_only, multiple_first, multiple_second, multiple_least, multiple_positive}
 use Rattle.ntfe_model.proofs.Lists.{range_length, range_get}
+use Rattle.ntfe_nums.proofs.Comparisons.{not_le}
 use Rattle.ntfe_nums.proofs.Signs.{some_size}
 
 pub scale_start : (ls : List (Option Line)) → scale_to ls 0 ≡ 1
@@ -149,7 +150,4 @@ wide_at width (z ∷ zs) zero l h w = wide_first width z zs (passes (2 ^ width) 
   where
     passes : (m n : ℕ) → m ≤ n → nat_le m n ≡ true
     passes m n i = grind (arith, nat_tests)
-wide_at width (z ∷ zs) (suc k) l h w = narrow_first width z zs (fails (2 ^ width) (unsigned_abs z) (h 0 (omega arith))) ∙ wide_at width zs k (omega arith) (λ i j. h (suc i) (omega arith)) w
-  where
-    fails : (m n : ℕ) → n < m → nat_le m n ≡ false
-    fails m n i = grind (arith, nat_tests)
+wide_at width (z ∷ zs) (suc k) l h w = narrow_first width z zs (not_le (2 ^ width) (unsigned_abs z) (h 0 (omega arith))) ∙ wide_at width zs k (omega arith) (λ i j. h (suc i) (omega arith)) w

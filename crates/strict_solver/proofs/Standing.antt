@@ -10,7 +10,7 @@ use Rattle.ntfe_nums.specs.Vectors.{sign}
 use Rattle.ntfe_nums.proofs.Ring.{ring}
 use Rattle.ntfe_nums.proofs.Ring.Expression.{var, num, plus, minus, times}
 use Rattle.ntfe_model.specs.declared.nogood.Fold.{Fold}
-use Rattle.ntfe_model.specs.Solver.{Line, fold_row, IsNextLine, IsPivot}
+use Rattle.ntfe_model.specs.Solver.{Line, fold_row, IsPivot}
 use Rattle.strict_solver.specs.declared.place.Place.{Place}
 use Rattle.strict_solver.specs.declared.place.Place.TheVariants.{Row, Column}
 use Rattle.strict_solver.specs.Rows.{number, number_at, line_in}
@@ -20,12 +20,11 @@ use Rattle.strict_solver.specs.Equations.{combination, LineHolds, Holds}
 use Rattle.strict_solver.specs.Continuing.{wider, wider_line, with_row, IsLowest, IsLineFor}
 use Rattle.strict_solver.specs.Standing.{fold_sum, IsSlackRow, IsPutIn, StandsFor}
 use Rattle.strict_solver.proofs.Forms.{combination-set}
-use Rattle.strict_solver.proofs.Pivots.{IsTable, in_table, pivot-held}
+use Rattle.strict_solver.proofs.Pivots.{IsTable, in_table, pivot-held, AreLowest, pivot-left, pivot-new, pivot-free, pivot-kept}
 use Rattle.strict_solver.proofs.Placing.{coefficient_there, set_there, set_elsewhere}
 use Rattle.strict_solver.proofs.Pivoting.{some_place}
 use Rattle.strict_solver.proofs.Elimination.{from_place, same_place}
 use Rattle.strict_solver.proofs.Meaning.{row_value}
-use Rattle.strict_solver.proofs.Following.{AreLowest}
 use Rattle.strict_solver.proofs.Deciding.{wider-holds}
 use Rattle.strict_solver.proofs.Joining.{split-last, row-values, row-get, row-last, row-length}
 use Rattle.strict_solver.proofs.Unique.{cancel}
@@ -235,41 +234,24 @@ module _ (columns : ℕ) (places : List Place) (cells : List ℤ) (d : ℤ) (s :
         by (inr (inl f)) = inr (inl (f, sym (same_place (set (set places x (Column p)) y (Row r)) y (Row r) o at_y (subst P f e))))
         by (inr (inr n)) = inr (inr (n.0, n.1, sym (at_others z n.0 n.1) ∙ e))
 
-    within_s : (z : ℕ) (o : Place) → slice_get (set (set places x (Column p)) y (Row r)) z ≡ Some o → z < length s
-    within_s z o e = let a = from_place (set (set places x (Column p)) y (Row r)) z o o e in let k = a.0 in let b = length-set (set places x (Column p)) y (Row r) in let c = length-set places x (Column p) in let g = h.count in omega arith
-
     same_column : (m n : ℕ) → Column m ≡ Column n → m ≡ n
     same_column m n e = cc
 
     basic : (v q : ℕ) → slice_get (set (set places x (Column p)) y (Row r)) v ≡ Some (Row q) → (l : Line) × (get_or t v None ≡ Some l)
-    basic v q e = by (came v (Row q) e) (pv.lines v (within_s v (Row q) e))
+    basic v q e = by (came v (Row q) e)
       where
-        by : ((v ≡ x) × (Row q ≡ Column p)) ⊎ ((v ≡ y) × (Row q ≡ Row r)) ⊎ ((v ≢ x) × (v ≢ y) × (slice_get places v ≡ Some (Row q)))
-            → IsNextLine x y pv.new v (get_or s v None) (get_or t v None) → (l : Line) × (get_or t v None ≡ Some l)
-        by (inl a) n = let f = a.1 in cc
-        by (inr (inl a)) (inl b) = absurd (apart_xy (sym b.0 ∙ a.0))
-        by (inr (inl a)) (inr (inl b)) = (pv.new, b.1)
-        by (inr (inl a)) (inr (inr (inl b))) = absurd (b.1 a.0)
-        by (inr (inl a)) (inr (inr (inr b))) = (b.1, b.5)
-        by (inr (inr a)) (inl b) = absurd (a.0 b.0)
-        by (inr (inr a)) (inr (inl b)) = absurd (a.1 b.0)
-        by (inr (inr a)) (inr (inr (inl b))) = let l = h.basic v q a.2 in absurd (not_both (get_or s v None) l.0 l.1 b.2)
-        by (inr (inr a)) (inr (inr (inr b))) = (b.1, b.5)
+        by : ((v ≡ x) × (Row q ≡ Column p)) ⊎ ((v ≡ y) × (Row q ≡ Row r)) ⊎ ((v ≢ x) × (v ≢ y) × (slice_get places v ≡ Some (Row q))) → (l : Line) × (get_or t v None ≡ Some l)
+        by (inl a) = let f = a.1 in cc
+        by (inr (inl a)) = (pv.new, ap (λ k. get_or t k None) a.0 ∙ pivot-new x y s t pv)
+        by (inr (inr a)) = let l = h.basic v q a.2 in pivot-kept x y s t pv v l.0 l.1 a.0
 
     other : (v q : ℕ) → slice_get (set (set places x (Column p)) y (Row r)) v ≡ Some (Column q) → get_or t v None ≡ None
-    other v q e = by (came v (Column q) e) (pv.lines v (within_s v (Column q) e))
+    other v q e = by (came v (Column q) e)
       where
-        by : ((v ≡ x) × (Column q ≡ Column p)) ⊎ ((v ≡ y) × (Column q ≡ Row r)) ⊎ ((v ≢ x) × (v ≢ y) × (slice_get places v ≡ Some (Column q)))
-            → IsNextLine x y pv.new v (get_or s v None) (get_or t v None) → get_or t v None ≡ None
-        by (inl a) (inl b) = b.1
-        by (inl a) (inr (inl b)) = absurd (apart_xy (sym a.0 ∙ b.0))
-        by (inl a) (inr (inr (inl b))) = b.3
-        by (inl a) (inr (inr (inr b))) = absurd (b.2 a.0)
-        by (inr (inl a)) n = let f = a.1 in cc
-        by (inr (inr a)) (inl b) = b.1
-        by (inr (inr a)) (inr (inl b)) = absurd (a.1 b.0)
-        by (inr (inr a)) (inr (inr (inl b))) = b.3
-        by (inr (inr a)) (inr (inr (inr b))) = absurd (not_both (get_or s v None) b.0 b.4 (h.other v q a.2))
+        by : ((v ≡ x) × (Column q ≡ Column p)) ⊎ ((v ≡ y) × (Column q ≡ Row r)) ⊎ ((v ≢ x) × (v ≢ y) × (slice_get places v ≡ Some (Column q))) → get_or t v None ≡ None
+        by (inl a) = ap (λ k. get_or t k None) a.0 ∙ pivot-left x y s t pv
+        by (inr (inl a)) = let f = a.1 in cc
+        by (inr (inr a)) = pivot-free x y s t pv v (h.other v q a.2) a.1
 
     within : (v q : ℕ) → slice_get (set (set places x (Column p)) y (Row r)) v ≡ Some (Column q) → (2 ≤ q) × (q < columns + 2)
     within v q e = by (came v (Column q) e)

@@ -5,7 +5,7 @@
 --     leaves, enters     which slack leaves and which enters
 --     moves-to           after the exchange the basis stands for the next table
 --     stuck              where no slack can enter, the run ends infeasible
-use Rattle.std.proofs.Common.{◌≡◌, ◌≢◌, ℕ, zero, suc, ◌+◌, ◌-◌, ◌<◌, ◌≤◌, ◌⊎◌, inl, inr, Bool, true, false, ◌&&◌, refl, sym, ap, ◌∙◌, subst, arith, ℤ, pos, negsuc, ◌+ℤ◌, ◌-ℤ◌, ◌*ℤ◌, ◌<ℤ◌, ◌≤ℤ◌, int_lt, List, [], ◌∷◌, map, length, get_or, set, Some, None, Option}
+use Rattle.std.proofs.Common.{◌≡◌, ◌≢◌, ℕ, zero, suc, ◌+◌, ◌-◌, ◌<◌, ◌≤◌, ◌⊎◌, inl, inr, ⊎_elim, Bool, true, false, ◌&&◌, refl, sym, ap, ◌∙◌, subst, arith, ℤ, pos, ◌+ℤ◌, ◌-ℤ◌, ◌*ℤ◌, ◌<ℤ◌, ◌≤ℤ◌, int_lt, List, [], map, length, get_or, set, Some, None, Option}
 use Rattle.std.specs.Prelude.{slice_get, find, nat_le, is_none}
 use Rattle.std.specs.Option.{option_map_or, option_and_then}
 use Rattle.std.specs.List.{range_with_len}
@@ -13,8 +13,6 @@ use Rattle.std.proofs.lemmas.Int.{ints}
 use Rattle.std.proofs.lemmas.List.{get_or-map, length-map}
 use Rattle.std.proofs.lemmas.Bool.Decides.{nat_tests}
 use Rattle.ntfe_nums.specs.Vectors.{sign}
-use Rattle.ntfe_nums.proofs.Ring.{ring}
-use Rattle.ntfe_nums.proofs.Ring.Expression.{var, times}
 use Rattle.ntfe_model.specs.declared.nogood.Fold.{Fold}
 use Rattle.ntfe_model.specs.Solver.{Line, Table, coefficient_at, fold_row, first_negative, first_entering, IsPivot}
 use Rattle.ntfe_model.specs.Solver.Move.{pivot, feasible, infeasible}
@@ -28,7 +26,7 @@ use Rattle.strict_solver.specs.Continuing.{IsLineFor, HasLoadedTo}
 use Rattle.strict_solver.specs.Standing.{fold_sum, cell_at, constant_of, IsSlackRow, StandsFor, StandsAtEnd, StandsLoaded, HasSlackRow, HasNoneBelow, IsFirstBelow, HasNoneEntering, IsFirstToEnter, IsExchanged, IsStuck}
 use Rattle.strict_solver.proofs.Pivots.{IsTable}
 use Rattle.strict_solver.proofs.Runs.{AreRows}
-use Rattle.strict_solver.proofs.Values.{product_negative, factor_negative, factor_at_least, product_at_most}
+use Rattle.strict_solver.proofs.Values.{product_negative, factor_negative}
 use Rattle.strict_solver.proofs.Moves.{no_first_slack, int_lt-not_zero, IsMove}
 use Rattle.strict_solver.proofs.Steps.{step_lines, step-is, move-pivotable}
 use Rattle.strict_solver.proofs.Searches.{found_at, found_nowhere, slack_test, slack_before, first_slack_at, first_slack_none, below_passes, below_fails, above_passes, above_fails, entering_test, entering_before}
@@ -40,7 +38,7 @@ use Rattle.strict_solver.proofs.Outcome.{are_rows}
 use Rattle.strict_solver.proofs.Path.{moves-on, ends-here}
 use Rattle.strict_solver.proofs.SlackLines.{constants-proportional, lines-proportional, reached-table, reached-length, slack-value, slack-line, idle-constant}
 use Rattle.strict_solver.proofs.Standing.{raw-line, pivoted}
-use Rattle.ntfe_nums.proofs.Signs.{positive_product, product_not_negative}
+use Rattle.ntfe_nums.proofs.Signs.{positive_product, product_not_negative, sign_of, not_negative, not_both_signs, factor_not_negative, product_not_positive}
 
 -- ---- the row of a slack
 abbrev entry : ℕ → List ℤ → ℤ → Fold → ℕ → ℤ
@@ -69,44 +67,16 @@ slack-row columns cells d f = (
 
 -- ---- signs of proportional numbers
 same_least : (d g a b : ℤ) → pos 0 <ℤ d → pos 0 <ℤ g → g *ℤ a ≡ d *ℤ b → pos 0 ≤ℤ a → pos 0 ≤ℤ b
-same_least d g a b pd pg e h = factor_at_least d b pd (let P : ℤ → Type 0 = λ z. pos 0 ≤ℤ z in subst P e (product_not_negative g a (weak g pg) h))
-  where
-    weak : (z : ℤ) → pos 0 <ℤ z → pos 0 ≤ℤ z
-    weak z l = omega (arith, ints)
+same_least d g a b pd pg e h = factor_not_negative d b pd (let P : ℤ → Type 0 = λ z. pos 0 ≤ℤ z in subst P e (product_not_negative g a (not_negative g pg) h))
 
 same_negative : (d g a b : ℤ) → pos 0 <ℤ d → pos 0 <ℤ g → g *ℤ a ≡ d *ℤ b → a <ℤ pos 0 → b <ℤ pos 0
 same_negative d g a b pd pg e h = factor_negative d b pd (let P : ℤ → Type 0 = λ z. z <ℤ pos 0 in subst P e (product_negative g a pg h))
 
 same_positive : (d g a b : ℤ) → pos 0 <ℤ d → pos 0 <ℤ g → g *ℤ a ≡ d *ℤ b → pos 0 <ℤ a → pos 0 <ℤ b
-same_positive d g a b pd pg e h = by (positive_product g a pg h) (λ i. product_at_most' d b pd i)
-  where
-    product_at_most' : (d b : ℤ) → pos 0 <ℤ d → b ≤ℤ pos 0 → (d *ℤ b) ≤ℤ pos 0
-    product_at_most' d b p i = let k = product_at_most b d i (weak d p) in let c : d *ℤ b ≡ b *ℤ d = ring (d ∷ b ∷ []) (times (var 0) (var 1)) (times (var 1) (var 0)) refl in omega (arith, ints)
-      where
-        weak : (z : ℤ) → pos 0 <ℤ z → pos 0 ≤ℤ z
-        weak z l = omega (arith, ints)
-
-    by : pos 0 <ℤ (g *ℤ a) → (b ≤ℤ pos 0 → (d *ℤ b) ≤ℤ pos 0) → pos 0 <ℤ b
-    by p f = above b (λ i. let k = f i in omega (arith, ints))
-      where
-        above : (z : ℤ) → (z ≤ℤ pos 0 → ⊥) → pos 0 <ℤ z
-        above (pos zero) k = absurd (k (omega (arith, ints)))
-        above (pos (suc n)) k = omega (arith, ints)
-        above (negsuc n) k = absurd (k (omega (arith, ints)))
+same_positive d g a b pd pg e h = ⊎_elim (λ i. i) (λ i. absurd (not_both_signs _ _ (sym e) (product_not_positive d b (not_negative d pd) i) (positive_product g a pg h))) (sign_of b)
 
 same_most : (d g a b : ℤ) → pos 0 <ℤ d → pos 0 <ℤ g → g *ℤ a ≡ d *ℤ b → a ≤ℤ pos 0 → b ≤ℤ pos 0
-same_most d g a b pd pg e h = below b (λ i. (let k = positive_product d b pd i in let l = least g a pg h in omega (arith, ints)))
-  where
-    least : (g a : ℤ) → pos 0 <ℤ g → a ≤ℤ pos 0 → (g *ℤ a) ≤ℤ pos 0
-    least g a p i = let k = product_at_most a g i (weak g p) in let c : g *ℤ a ≡ a *ℤ g = ring (g ∷ a ∷ []) (times (var 0) (var 1)) (times (var 1) (var 0)) refl in omega (arith, ints)
-      where
-        weak : (z : ℤ) → pos 0 <ℤ z → pos 0 ≤ℤ z
-        weak z l = omega (arith, ints)
-
-    below : (z : ℤ) → (pos 0 <ℤ z → ⊥) → z ≤ℤ pos 0
-    below (pos zero) k = omega (arith, ints)
-    below (pos (suc n)) k = absurd (k (omega (arith, ints)))
-    below (negsuc n) k = omega (arith, ints)
+same_most d g a b pd pg e h = ⊎_elim (λ i. absurd (not_both_signs _ _ e (product_not_positive g a (not_negative g pg) h) (positive_product d b pd i))) (λ i. i) (sign_of b)
 
 -- ---- a basis in the moving
 module _ (b : Basis) (fs : List Fold) (over : AreFoldsOver b.columns fs) (h : StandsLoaded b fs) where

@@ -18,11 +18,10 @@ use Rattle.strict_solver.specs.Equations.{combination, Holds}
 use Rattle.strict_solver.specs.Continuing.{wider, with_row, IsLineFor, IsLeastHeight, EndsWith, HasLoadedTo}
 use Rattle.strict_solver.specs.Standing.{StandsFor, StandsAtEnd, StandsLoaded, IsSlackRow, fold_sum, cell_at, LoadsNothing, IsFirstHeight, IsExchanged, IsPutIn}
 use Rattle.strict_solver.proofs.Forms.{reduced_parts, reduced-holds}
-use Rattle.strict_solver.proofs.Pivots.{IsTable}
+use Rattle.strict_solver.proofs.Pivots.{IsTable, AreLowest}
 use Rattle.strict_solver.proofs.Runs.{AreRows}
 use Rattle.strict_solver.proofs.Reduced.{reduced, reduced-is}
 use Rattle.strict_solver.proofs.Wider.{reduced-wider, reduced-clear}
-use Rattle.strict_solver.proofs.Following.{AreLowest}
 use Rattle.strict_solver.proofs.Elimination.{same_place}
 use Rattle.strict_solver.proofs.Placing.{coefficient_there}
 use Rattle.strict_solver.proofs.GoingOn.{start-lowest}

@@ -10,9 +10,8 @@ use Rattle.strict_solver.specs.Equations.{combination, Holds}
 use Rattle.strict_solver.specs.Continuing.{IsLowest}
 use Rattle.strict_solver.proofs.Forms.{back, length_mapped}
 use Rattle.strict_solver.proofs.One.{reduced_same}
-use Rattle.strict_solver.proofs.Pivots.{IsTable}
+use Rattle.strict_solver.proofs.Pivots.{IsTable, AreLowest}
 use Rattle.strict_solver.proofs.Values.{common, values_by, common-positive, length-values, value-none, values-hold, combination-none}
-use Rattle.strict_solver.proofs.Following.{AreLowest}
 use Rattle.strict_solver.proofs.Directions.{combination-one, IsDirection, direction_values, direction}
 use Rattle.strict_solver.proofs.Entries.{basic_or_not}
 
