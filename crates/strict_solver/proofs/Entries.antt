@@ -18,6 +18,10 @@ at_places x y s P a b f g z = by (same_or z x) (same_or z y) (basic_or_not (get_
     by (inr i) (inr j) (inl e) = g z e.0 i e.1
     by (inr i) (inr j) (inr e) = f z j e
 
+pub none_unless : (o : Option Line) → ((r : Line) → o ≡ Some r → ⊥) → o ≡ None
+none_unless None h = refl
+none_unless (Some r) h = absurd (h r refl)
+
 pub not_both : (o : Option Line) (r : Line) → o ≡ Some r → o ≡ None → ⊥
 not_both o r e f = cc
 

@@ -12,10 +12,10 @@ use Rattle.strict_solver.specs.Grids.{IsPivotable}
 use Rattle.strict_solver.specs.Continuing.{wider, wider_line}
 use Rattle.strict_solver.proofs.One.{reduced_same}
 use Rattle.strict_solver.proofs.Moves.{IsGone}
-use Rattle.strict_solver.proofs.Pivots.{IsTable, AreLowest, get_there, pivot-leaving, pivot-entering, pivot-new, pivot-left, pivot-free, pivot-put, pivot-none, pivot-table, pivot-gone}
+use Rattle.strict_solver.proofs.Pivots.{IsTable, AreLowest, get_there, pivot-leaving, pivot-entering, pivot-new, pivot-left, pivot-free, pivot-put, pivot-none, pivot-table, pivot-gone, solved-clear, put_in-clear}
 use Rattle.strict_solver.proofs.Steps.{step_lines, step-is}
-use Rattle.strict_solver.proofs.Wider.{zero_after, solved-wider, put_in-wider, reduced-wider, wider-lowest, reduced-kept, solved-clear, put_in-clear}
-use Rattle.strict_solver.proofs.Entries.{basic_or_not, at_places, not_both, both_some, none_of, slice_none}
+use Rattle.strict_solver.proofs.Wider.{zero_after, solved-wider, put_in-wider, reduced-wider, wider-lowest, reduced-kept}
+use Rattle.strict_solver.proofs.Entries.{basic_or_not, at_places, not_both, both_some, none_of, slice_none, none_unless}
 
 pub record Follows (columns : ℕ) (s u : List (Option Line)) (e : ℕ) : Type 0 where
   pub longer : length u ≡ suc (length s)
@@ -137,7 +137,7 @@ module _ (columns x y : ℕ) (s t u : List (Option Line)) (e : ℕ) (w : IsTable
               let b = (pivot-table x y u (step_lines x y u) k f.table y k.new (pivot-new x y u (step_lines x y u) k)).count in
               let c = k.length_same in
               let d = f.longer in
-              put_in-clear f.line k.new kept.0 y j kept.2 ny (omega arith) (omega arith) before.1 new_clear),
+              put_in-clear f.line k.new kept.0 y j kept.2 (omega arith) (omega arith) (inr before.1) new_clear),
         )
           where
             ny : j ≢ y
@@ -150,7 +150,7 @@ module _ (columns x y : ℕ) (s t u : List (Option Line)) (e : ℕ) (w : IsTable
             before = f.cleared j lj le (none_of _ (sym (pivot-none x y s t p j nx ny) ∙ ap is_none none))
 
             new_clear : coefficient_at k.new j ≡ pos 0
-            new_clear = solved-clear k.row k.new x y j k.solved nx ny (ap (λ r. coefficient_at r j) same_row ∙ zero_after p.row.coefficients j ∙ before.0 x p.row cx lx is_x)
+            new_clear = solved-clear k.row k.new x y j k.solved nx (inr (ap (λ r. coefficient_at r j) same_row ∙ zero_after p.row.coefficients j ∙ before.0 x p.row cx lx is_x))
 
         there : (e ≡ length s) ⊎ ((e < columns) × IsGone columns s e) → (e ≡ length t) ⊎ ((e < columns) × IsGone columns t e)
         there (inl i) = inl (i ∙ sym p.length_same)
@@ -163,11 +163,7 @@ module _ (columns x y : ℕ) (s t u : List (Option Line)) (e : ℕ) (w : IsTable
 module _ (columns k : ℕ) (s u : List (Option Line)) (w : IsTable s) (low : AreLowest s) (cs : columns ≤ length s) (ck : k < columns) (gone : IsGone columns s k) (f : Follows columns s u (length s))
     (some : coefficient_at f.line k ≢ pos 0) (before : (j : ℕ) → j < k → get_or s j None ≡ None → IsGone columns s j × (coefficient_at f.line j ≡ pos 0)) where
   height_none : get_or u k None ≡ None
-  height_none = by (basic_or_not (get_or u k None))
-    where
-      by : ((r : Line) × (get_or u k None ≡ Some r)) ⊎ (get_or u k None ≡ None) → get_or u k None ≡ None
-      by (inl h) = absurd (some ((f.table (length s) f.line f.extra).zeros k h.0 h.1))
-      by (inr h) = h
+  height_none = none_unless _ (λ r h. some ((f.table (length s) f.line f.extra).zeros k r h))
 
   can_load : IsPivotable (length s) k u
   can_load = record {
@@ -212,7 +208,7 @@ module _ (columns k : ℕ) (s u : List (Option Line)) (w : IsTable s) (low : Are
       cleared = λ j lj le none.
           (let b = before j lj none in
           let row : p.row ≡ f.line = both_some _ p.row f.line (pivot-leaving (length s) k u (step_lines (length s) k u) p).0 f.extra in
-          (b.0, solved-clear p.row p.new (length s) k j p.solved (λ i. omega arith) (λ i. omega arith) (ap (λ r. coefficient_at r j) row ∙ b.1)));
+          (b.0, solved-clear p.row p.new (length s) k j p.solved (λ i. omega arith) (inr (ap (λ r. coefficient_at r j) row ∙ b.1))));
     }
       where
         basic : (z : ℕ) → z ≢ k → (z ≡ length s) ⊎ (z ≢ length s) → is_none (get_or (step_lines (length s) k u) z None) ≡ is_none (get_or s z None)

@@ -23,6 +23,7 @@ use Rattle.strict_solver.proofs.Steps.{step_lines, step-is, move-pivotable, move
 use Rattle.strict_solver.proofs.Tables.{get_line, line_narrow, table_narrow}
 use Rattle.std.proofs.lemmas.List.{get_or_past}
 use Rattle.strict_solver.proofs.Entries.{slice_none}
+use Rattle.ntfe_model.proofs.Lists.{some_once}
 
 -- ---- the table of a grid
 pub grid_table : (width : ℕ) (g : Grid) → IsGrid width g → IsTable (lines_of g)
@@ -84,12 +85,9 @@ module _ (columns width : ℕ) (rs : List (List ℤ)) (steps : ℕ) (t u : Table
           let g : slice_get (start_table columns rs ∷ r.tables) (length r.tables) ≡ Some t = run-last columns (start_table columns rs) r.tables t r.run in
           let P : ℕ → Type 0 = λ n. slice_get (start_table columns rs ∷ r.tables) n ≡ Some s in
           let h : slice_get (start_table columns rs ∷ r.tables) (length r.tables) ≡ Some s = subst P (f ∙ sym c) (sym (front_of (start_table columns rs ∷ r.tables) u j (omega arith)) ∙ e) in
-          let i : t ≡ s = same t s (sym g ∙ h) in
+          let i : t ≡ s = some_once t s (sym g ∙ h) in
           let Q : Table → Type 0 = λ q. first_wide width (flat_map line_or_nothing q.lines) ≡ None in
           subst Q i narrow
-        where
-          same : (a b : Table) → Some a ≡ Some b → a ≡ b
-          same a b e = cc
 
 -- what is shown of one more step
 pub shown_more : (step steps next : ℕ) → step ≡ shown_step steps → next ≡ min (step + 1) (2 ^ 64 - 1) → next ≡ shown_step (steps + 1)

@@ -6,19 +6,19 @@
 --     idle-constant          where the slack is not basic, its line has the constant 0
 use Rattle.std.proofs.Common.{◌≡◌, ◌≢◌, ℕ, ◌+◌, ◌<◌, ◌⊎◌, inl, inr, refl, sym, ap, ◌∙◌, arith, ℤ, pos, negsuc, ◌+ℤ◌, ◌-ℤ◌, ◌*ℤ◌, ◌<ℤ◌, List, [], ◌∷◌, map, length, get_or, Some, None, Option}
 use Rattle.std.proofs.lemmas.Int.{ints}
-use Rattle.std.proofs.lemmas.List.{get_or-map, same_lists}
-use Rattle.ntfe_nums.proofs.Ring.{ring, product_zero}
+use Rattle.std.proofs.lemmas.List.{get_or-map, same_lists, length-map}
+use Rattle.ntfe_nums.proofs.Ring.{ring, product_zero, sum_zero}
 use Rattle.ntfe_nums.proofs.Ring.Expression.{var, num, plus, minus, times}
 use Rattle.ntfe_model.specs.Solver.{Line, Table, coefficient_at, start_line, start_table, Reaches}
 use Rattle.strict_solver.specs.Equations.{combination, Holds}
 use Rattle.strict_solver.specs.Continuing.{IsLowest, IsLineFor}
-use Rattle.strict_solver.proofs.Forms.{zero_factor, length_mapped}
+use Rattle.strict_solver.proofs.Forms.{zero_factor}
 use Rattle.strict_solver.proofs.Pivots.{IsTable, run-table, run-length, run-held}
 use Rattle.strict_solver.proofs.Values.{common, values_by, common-positive, length-values, value-none, values-hold, combination-none}
 use Rattle.strict_solver.proofs.Runs.{AreRows, start_lines, start-at, start-length, start-is_table}
 use Rattle.strict_solver.proofs.Directions.{combination-one, IsDirection, direction_values, direction}
 use Rattle.strict_solver.proofs.Deciding.{combination-padded}
-use Rattle.strict_solver.proofs.Unique.{proportion, proportional-same, zero_left, zero_right}
+use Rattle.strict_solver.proofs.Unique.{proportion, proportional-same, zero_left}
 use Rattle.strict_solver.proofs.Entries.{basic_or_not}
 
 -- the values where the variables that are not basic are 0
@@ -32,7 +32,7 @@ module _ (q : List ℤ) (s : List (Option Line)) (ws : IsTable s) where
   pub still-value : (l : Line) → IsLineFor q s l → l.d *ℤ (combination q (values_by (pos 1) s) -ℤ pos 1 *ℤ common s) ≡ l.c *ℤ (pos 1 *ℤ common s)
   still-value l f =
       f.value (pos 1 *ℤ common s) (values_by (pos 1) s) (length-values (pos 1) s) (values-hold (pos 1) s ws)
-      ∙ ap (λ k. l.c *ℤ (pos 1 *ℤ common s) +ℤ k) (combination-none l.coefficients (values_by (pos 1) s) (λ k. at k (basic_or_not (get_or s k None)))) ∙ zero_right (l.c *ℤ (pos 1 *ℤ common s))
+      ∙ ap (λ k. l.c *ℤ (pos 1 *ℤ common s) +ℤ k) (combination-none l.coefficients (values_by (pos 1) s) (λ k. at k (basic_or_not (get_or s k None)))) ∙ sum_zero (l.c *ℤ (pos 1 *ℤ common s))
     where
       at : (k : ℕ) → ((o : Line) × (get_or s k None ≡ Some o)) ⊎ (get_or s k None ≡ None) → (get_or l.coefficients k (pos 0) ≡ pos 0) ⊎ (get_or (values_by (pos 1) s) k (pos 0) ≡ pos 0)
       at k (inl h) = inl (f.zeros k h.0 h.1)
@@ -80,9 +80,9 @@ module _ (q : List ℤ) (s : List (Option Line)) (ws : IsTable s) where
 
         rest : map (λ z. m.d *ℤ z) l.coefficients ≡ map (λ z. l.d *ℤ z) m.coefficients
         rest = same_lists (map (λ z. m.d *ℤ z) l.coefficients) (map (λ z. l.d *ℤ z) m.coefficients)
-            (let a = length_mapped (λ z. m.d *ℤ z) l.coefficients in let b = length_mapped (λ z. l.d *ℤ z) m.coefficients in let c = f.count in let d = g.count in omega arith)
+            (let a = length-map l.coefficients (λ z. m.d *ℤ z) in let b = length-map m.coefficients (λ z. l.d *ℤ z) in let c = f.count in let d = g.count in omega arith)
             (λ k d h.
-            (let a = length_mapped (λ z. m.d *ℤ z) l.coefficients in
+            (let a = length-map l.coefficients (λ z. m.d *ℤ z) in
             let c = f.count in
             let e = g.count in
             get_or-map (λ z. m.d *ℤ z) l.coefficients k (pos 0) d (omega arith)

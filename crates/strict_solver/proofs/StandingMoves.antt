@@ -27,7 +27,7 @@ use Rattle.strict_solver.specs.Standing.{fold_sum, cell_at, constant_of, IsSlack
 use Rattle.strict_solver.proofs.Pivots.{IsTable}
 use Rattle.strict_solver.proofs.Runs.{AreRows}
 use Rattle.strict_solver.proofs.Values.{product_negative, factor_negative}
-use Rattle.strict_solver.proofs.Moves.{no_first_slack, int_lt-not_zero, IsMove}
+use Rattle.strict_solver.proofs.Moves.{no_first_slack, int_lt-not_zero, IsMove, no_test, no_second, no_third}
 use Rattle.strict_solver.proofs.Steps.{step_lines, step-is, move-pivotable}
 use Rattle.strict_solver.proofs.Searches.{found_at, found_nowhere, slack_test, slack_before, first_slack_at, first_slack_none, below_passes, below_fails, above_passes, above_fails, entering_test, entering_before}
 use Rattle.strict_solver.proofs.Placing.{coefficient_there}
@@ -125,19 +125,15 @@ module _ (b : Basis) (fs : List Fold) (over : AreFoldsOver b.columns fs) (h : St
       line : (k : List ℤ) × IsSlackRow b.columns b.cells.items b.denominator f k
       line = slack-row b.columns b.cells.items b.denominator f
 
-      both-false : (x : Bool) → (x && false) ≡ false
-      both-false true = refl
-      both-false false = refl
-
       by : (o : Option Line) → get_or h.table.lines (b.columns + j) None ≡ o → (nat_le b.columns (b.columns + j) && option_map_or (λ r. int_lt r.c (pos 0)) (get_or h.table.lines (b.columns + j) None) false) ≡ false
-      by None g = ap (λ o. nat_le b.columns (b.columns + j) && option_map_or (λ r. int_lt r.c (pos 0)) o false) g ∙ both-false (nat_le b.columns (b.columns + j))
+      by None g = ap (λ o. nat_le b.columns (b.columns + j) && option_map_or (λ r. int_lt r.c (pos 0)) o false) g ∙ no_test (nat_le b.columns (b.columns + j))
       by (Some r) g =
           ap (λ o. nat_le b.columns (b.columns + j) && option_map_or (λ r. int_lt r.c (pos 0)) o false) g
           ∙ ap (λ z. nat_le b.columns (b.columns + j) && z)
           (below_fails r.c
           (same_least (number line.0 0) r.d (number line.0 1) r.c (raw j f e line.0 line.1).positive (real j f e line.0 line.1 r g).positive (constants j f e line.0 line.1 r g)
           (let P : ℤ → Type 0 = λ z. pos 0 ≤ℤ z in subst P (sym line.1.constant) l)))
-          ∙ both-false (nat_le b.columns (b.columns + j))
+          ∙ no_test (nat_le b.columns (b.columns + j))
 
   before-slack : (test : Line → Bool) (x : ℕ) → x < b.columns → slack_test b.columns test h.table.lines x ≡ false
   before-slack test x l = slack_before b.columns test h.table.lines x l
@@ -236,23 +232,14 @@ module _ (b : Basis) (fs : List Fold) (over : AreFoldsOver b.columns fs) (h : St
       enters-not : (y : ℕ) → y < length h.table.lines → ((p : ℕ) → b.columns ≤ y → slice_get b.places.items y ≡ Some (Column p) → number b.line.items p ≤ℤ pos 0) → entering_test b.columns h.table.lines basic.0 y ≡ false
       enters-not y l f = by (let c : (y < b.columns) ⊎ (b.columns ≤ y) = grind arith in c) (let c = h.stands.count in some_place b.places.items y (omega arith))
         where
-          third : (u v : Bool) → (u && v && false) ≡ false
-          third true true = refl
-          third true false = refl
-          third false v = refl
-
-          second : (u v : Bool) → (u && false && v) ≡ false
-          second true v = refl
-          second false v = refl
-
           at : (o : Place) → slice_get b.places.items y ≡ Some o → b.columns ≤ y → entering_test b.columns h.table.lines basic.0 y ≡ false
           at (Row r) e c =
               let a = h.stands.basic y r e in
-              ap (λ o. nat_le b.columns y && is_none o && int_lt (pos 0) (coefficient_at basic.0 y)) a.1 ∙ second (nat_le b.columns y) (int_lt (pos 0) (coefficient_at basic.0 y))
+              ap (λ o. nat_le b.columns y && is_none o && int_lt (pos 0) (coefficient_at basic.0 y)) a.1 ∙ no_second (nat_le b.columns y) (int_lt (pos 0) (coefficient_at basic.0 y))
           at (Column p) e c =
               ap (λ z. nat_le b.columns y && is_none (get_or h.table.lines y None) && z)
               (above_fails (coefficient_at basic.0 y) (same_most (number b.line.items 0) basic.0.d (number b.line.items p) (coefficient_at basic.0 y) kept.positive theirs.positive (proportional y (Column p) e) (f p c e)))
-              ∙ third (nat_le b.columns y) (is_none (get_or h.table.lines y None))
+              ∙ no_third (nat_le b.columns y) (is_none (get_or h.table.lines y None))
 
           by : (y < b.columns) ⊎ (b.columns ≤ y) → (o : Place) × (slice_get b.places.items y ≡ Some o) → entering_test b.columns h.table.lines basic.0 y ≡ false
           by (inl c) o = entering_before b.columns h.table.lines basic.0 y c

@@ -117,14 +117,14 @@ module _ (columns width : ℕ) (places : List Place) (h : IsPlacing columns plac
 
     next : (z : ℕ) → z < length places → IsNextLine x y (line_in (set (set places x (Column p)) y (Row r)) (row_at (columns + 2) mid r)) z (get_or (lines_by (columns + 2) places old) z None)
         (get_or (lines_by (columns + 2) (set (set places x (Column p)) y (Row r)) now) z None)
-    next z l = by (somewhere columns places h x y r p ex ey z)
+    next z l = by (somewhere places x y r p ex ey z)
       where
         by : (z ≡ x) ⊎ (z ≡ y) ⊎ ((z ≢ x) × (z ≢ y)) → IsNextLine x y (line_in (set (set places x (Column p)) y (Row r)) (row_at (columns + 2) mid r)) z (get_or (lines_by (columns + 2) places old) z None)
             (get_or (lines_by (columns + 2) (set (set places x (Column p)) y (Row r)) now) z None)
-        by (inl e) = inl (e, there z (Column p) (ap (slice_get (set (set places x (Column p)) y (Row r))) e ∙ at_leaving columns places h x y r p ex ey))
+        by (inl e) = inl (e, there z (Column p) (ap (slice_get (set (set places x (Column p)) y (Row r))) e ∙ at_leaving places x y r p ex ey))
         by (inr (inl e)) = inr (inl (
           e,
-          there z (Row r) (ap (slice_get (set (set places x (Column p)) y (Row r))) e ∙ at_entering columns places h x y r p ex ey)
+          there z (Row r) (ap (slice_get (set (set places x (Column p)) y (Row r))) e ∙ at_entering places x y r p ex ey)
               ∙ ap (λ row. Some (line_in (set (set places x (Column p)) y (Row r)) row)) same,
         ))
         by (inr (inr n)) = let o = some_place places z l in on o.0 o.1
@@ -137,10 +137,10 @@ module _ (columns width : ℕ) (places : List Place) (h : IsPlacing columns plac
               n.0,
               n.1,
               before z (Row q) e,
-              there z (Row q) (at_others columns places h x y r p ex ey z n.0 n.1 ∙ e),
+              there z (Row q) (at_others places x y r p ex ey z n.0 n.1 ∙ e),
               put_there z q (row_at (columns + 2) now q) e (done z q e (row_apart z q n.0 e)),
             )))
-            on (Column q) e = inr (inr (inl (n.0, n.1, before z (Column q) e, there z (Column q) (at_others columns places h x y r p ex ey z n.0 n.1 ∙ e))))
+            on (Column q) e = inr (inr (inl (n.0, n.1, before z (Column q) e, there z (Column q) (at_others places x y r p ex ey z n.0 n.1 ∙ e))))
 
     pub grid_pivot : IsPivot x y (lines_by (columns + 2) places old) (lines_by (columns + 2) (set (set places x (Column p)) y (Row r)) now)
     grid_pivot = record {
@@ -206,7 +206,7 @@ module _ (columns width : ℕ) (places : List Place) (h : IsPlacing columns plac
     v_apart f = let g : Row q ≡ Row r = same_place places x _ _ (subst (λ k. slice_get places k ≡ Some (Row q)) f e) ex in apart (let i : q ≡ r = cc in i)
 
     narrow_before : (u : ℕ) → u < v → first_wide width (line_or_nothing (get_or (step_lines x y (lines_by (columns + 2) places old)) u None)) ≡ None
-    narrow_before u l = by (somewhere columns places h x y r p ex ey u)
+    narrow_before u l = by (somewhere places x y r p ex ey u)
       where
         by : (u ≡ x) ⊎ (u ≡ y) ⊎ ((u ≢ x) × (u ≢ y)) → first_wide width (line_or_nothing (get_or (step_lines x y (lines_by (columns + 2) places old)) u None)) ≡ None
         by (inl f) = ap (λ k. first_wide width (line_or_nothing k)) (ap (λ k. get_or (step_lines x y (lines_by (columns + 2) places old)) k None) f ∙ pivot-left x y _ _ stepped)

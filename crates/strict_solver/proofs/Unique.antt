@@ -2,13 +2,13 @@
 use Rattle.std.proofs.Common.{◌≡◌, ◌≢◌, ℕ, ◌<◌, ◌⊎◌, inl, inr, refl, sym, ap, ◌∙◌, arith, ℤ, pos, negsuc, ◌+ℤ◌, ◌*ℤ◌, ◌<ℤ◌, List, [], ◌∷◌, map, length, get_or, Some, None, Option}
 use Rattle.std.specs.Prelude.{is_none}
 use Rattle.std.proofs.lemmas.Int.{ints}
-use Rattle.std.proofs.lemmas.List.{get_or_default, get_or-map, same_lists}
-use Rattle.ntfe_nums.proofs.Ring.{ring}
+use Rattle.std.proofs.lemmas.List.{get_or_default, get_or-map, same_lists, length-map}
+use Rattle.ntfe_nums.proofs.Ring.{ring, sum_zero}
 use Rattle.ntfe_nums.proofs.Ring.Expression.{var, num, plus, minus, times}
 use Rattle.ntfe_model.specs.Solver.{Line, coefficient_at, line_numbers, IsReduced}
 use Rattle.strict_solver.specs.Equations.{combination, Holds}
 use Rattle.strict_solver.specs.Continuing.{IsLowest}
-use Rattle.strict_solver.proofs.Forms.{back, length_mapped}
+use Rattle.strict_solver.proofs.Forms.{back}
 use Rattle.strict_solver.proofs.One.{reduced_same}
 use Rattle.strict_solver.proofs.Pivots.{IsTable, AreLowest}
 use Rattle.strict_solver.proofs.Values.{common, values_by, common-positive, length-values, value-none, values-hold, combination-none}
@@ -39,7 +39,7 @@ proportional-same r q pr pq lr lq same = reduced_same (record { d = q.d *ℤ r.d
     on (negsuc k) n e = absurd (omega (arith, ints))
     on (pos k) n e = record { k = k; factor = omega (arith, ints); same = same ∙ ap (λ t. map (λ z. t *ℤ z) (line_numbers q)) e; positive = pq; lowest = lq }
 
-as_none : (o p : Option Line) → is_none o ≡ is_none p → p ≡ None → o ≡ None
+pub as_none : (o p : Option Line) → is_none o ≡ is_none p → p ≡ None → o ≡ None
 as_none None p a b = refl
 as_none (Some o) None a b = cc
 as_none (Some o) (Some p) a b = cc
@@ -52,18 +52,15 @@ as_some (Some o) None r a b = cc
 pub zero_left : (c a : ℤ) → c *ℤ pos 0 +ℤ a ≡ a
 zero_left c a = ring (c ∷ a ∷ []) (plus (times (var 0) (num (pos 0))) (var 1)) (var 1) refl
 
-pub zero_right : (c : ℤ) → c +ℤ pos 0 ≡ c
-zero_right c = omega (arith, ints)
-
 module _ (s t : List (Option Line)) (len : length s ≡ length t) (ws : IsTable s) (wt : IsTable t) (ls : AreLowest s) (lt : AreLowest t) (basics : (z : ℕ) → is_none (get_or s z None) ≡ is_none (get_or t z None))
     (same : (one : ℤ) (vs : List ℤ) → length vs ≡ length s → Holds one vs s → Holds one vs t) where
   module _ (z : ℕ) (r q : Line) (er : get_or s z None ≡ Some r) (eq : get_or t z None ≡ Some q) where
     constants : q.d *ℤ r.c ≡ r.d *ℤ q.c
     constants =
         proportion r.d q.d r.c q.c (pos 1 *ℤ common s) (get_or (values_by (pos 1) s) z (pos 0)) some
-        (values-hold (pos 1) s ws z r er ∙ ap (λ k. r.c *ℤ (pos 1 *ℤ common s) +ℤ k) (combination-none r.coefficients (values_by (pos 1) s) (λ k. in_s k (basic_or_not (get_or s k None)))) ∙ zero_right (r.c *ℤ (pos 1 *ℤ common s)))
+        (values-hold (pos 1) s ws z r er ∙ ap (λ k. r.c *ℤ (pos 1 *ℤ common s) +ℤ k) (combination-none r.coefficients (values_by (pos 1) s) (λ k. in_s k (basic_or_not (get_or s k None)))) ∙ sum_zero (r.c *ℤ (pos 1 *ℤ common s)))
         (same (pos 1 *ℤ common s) (values_by (pos 1) s) (length-values (pos 1) s) (values-hold (pos 1) s ws) z q eq
-        ∙ ap (λ k. q.c *ℤ (pos 1 *ℤ common s) +ℤ k) (combination-none q.coefficients (values_by (pos 1) s) (λ k. in_t k (basic_or_not (get_or t k None)))) ∙ zero_right (q.c *ℤ (pos 1 *ℤ common s)))
+        ∙ ap (λ k. q.c *ℤ (pos 1 *ℤ common s) +ℤ k) (combination-none q.coefficients (values_by (pos 1) s) (λ k. in_t k (basic_or_not (get_or t k None)))) ∙ sum_zero (q.c *ℤ (pos 1 *ℤ common s)))
       where
         some : pos 1 *ℤ common s ≢ pos 0
         some e = let a = common-positive s (λ z r e. (ws z r e).positive) in let b : pos 1 *ℤ common s ≡ common s = ring (common s ∷ []) (times (num (pos 1)) (var 0)) (var 0) refl in omega (arith, ints)
@@ -122,9 +119,9 @@ module _ (s t : List (Option Line)) (len : length s ≡ length t) (ws : IsTable 
 
         rest : map (λ z. q.d *ℤ z) r.coefficients ≡ map (λ z. r.d *ℤ z) q.coefficients
         rest = same_lists (map (λ z. q.d *ℤ z) r.coefficients) (map (λ z. r.d *ℤ z) q.coefficients)
-            (let a = length_mapped (λ z. q.d *ℤ z) r.coefficients in let b = length_mapped (λ z. r.d *ℤ z) q.coefficients in let c = (ws z r er).count in let d = (wt z q eq).count in omega arith)
+            (let a = length-map r.coefficients (λ z. q.d *ℤ z) in let b = length-map q.coefficients (λ z. r.d *ℤ z) in let c = (ws z r er).count in let d = (wt z q eq).count in omega arith)
             (λ k d l.
-            (let a = length_mapped (λ z. q.d *ℤ z) r.coefficients in
+            (let a = length-map r.coefficients (λ z. q.d *ℤ z) in
             let c = (ws z r er).count in
             let e = (wt z q eq).count in
             get_or-map (λ z. q.d *ℤ z) r.coefficients k (pos 0) d (omega arith)

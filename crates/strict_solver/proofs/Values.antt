@@ -65,14 +65,14 @@ common-positive [] h = omega (arith, ints)
 common-positive (None ∷ s) h = common-positive s (λ z r e. h (suc z) r e)
 common-positive (Some q ∷ s) h = positive_product q.d (common s) (h zero q refl) (common-positive s (λ z r e. h (suc z) r e))
 
+pub zero_term : (e v : ℤ) → (e ≡ pos 0) ⊎ (v ≡ pos 0) → e *ℤ v ≡ pos 0
+zero_term e v (inl g) = ap (λ z. z *ℤ v) g ∙ zero_product v
+zero_term e v (inr g) = ap (λ z. e *ℤ z) g ∙ product_zero e
+
 pub combination-none : (es vs : List ℤ) → ((k : ℕ) → (get_or es k (pos 0) ≡ pos 0) ⊎ (get_or vs k (pos 0) ≡ pos 0)) → combination es vs ≡ pos 0
 combination-none [] vs h = refl
 combination-none (e ∷ es) [] h = refl
-combination-none (e ∷ es) (v ∷ vs) h = (λ i. term (h zero) i +ℤ combination-none es vs (λ k. h (suc k)) i)
-  where
-    term : (e ≡ pos 0) ⊎ (v ≡ pos 0) → e *ℤ v ≡ pos 0
-    term (inl g) = ap (λ z. z *ℤ v) g ∙ zero_product v
-    term (inr g) = ap (λ z. e *ℤ z) g ∙ product_zero e
+combination-none (e ∷ es) (v ∷ vs) h = (λ i. zero_term e v (h zero) i +ℤ combination-none es vs (λ k. h (suc k)) i)
 
 -- the values solve the rows
 pub values-hold : (m : ℤ) (s : List (Option Line)) → IsTable s → Holds (m *ℤ common s) (values_by m s) s
