@@ -1,5 +1,5 @@
 -- Folds that are positive at some heights do not cancel: the sum of positive multiples of them is positive.
-use Rattle.std.proofs.Common.{◌≡◌, ℕ, zero, suc, ◌<◌, ◌≤◌, sym, ap, ◌∙◌, subst, arith, ℤ, pos, negsuc, ◌+ℤ◌, ◌*ℤ◌, ◌<ℤ◌, List, [], ◌∷◌, length, map, get_or}
+use Rattle.std.proofs.Common.{◌≡◌, ℕ, ◌<◌, ◌≤◌, sym, ap, ◌∙◌, subst, arith, ℤ, pos, ◌+ℤ◌, ◌*ℤ◌, ◌<ℤ◌, List, [], ◌∷◌, length, map, get_or}
 use Rattle.std.specs.Prelude.{All, Option, Some}
 use Rattle.std.proofs.lemmas.Int.{ints}
 use Rattle.std.proofs.lemmas.List.{length-map, get_or-map}
@@ -19,8 +19,7 @@ use Rattle.strict_solver.proofs.Outcome.{are_rows}
 use Rattle.strict_solver.proofs.Scales.{infeasible-positive, infeasible-some}
 use Rattle.node_probe.specs.Heads.{AreHeadRows}
 use Rattle.node_probe.specs.Lifted.{AreLifted}
-use Rattle.node_probe.proofs.Heads.{head_folds_fixed}
-use Rattle.node_probe.proofs.Solutions.{folds_over}
+use Rattle.node_probe.proofs.Solutions.{folds_over, refuted_on}
 
 -- ---- sums of positive multiples
 
@@ -69,7 +68,4 @@ lifted_not_infeasible n width rs ms over (w, count, lifts) h =
 module _ (g : Shape) (s : IsShape g) (key : List ℕ) (rs : List Fold) (faces : List ℕ) (rows : AreHeadRows g key rs faces) where
   -- nor is it on those of a head
   pub lifted_not_refuted : length key ≤ length g.faces → AreLifted (length g.points) rs → (width : ℕ) → IsRefutedAt g width key → ⊥
-  lifted_not_refuted at_most lifted width (qs, ms, folds, k) =
-      let e = head_folds_fixed g 0 key qs rs folds rows.folds in
-      let P : List Fold → Type 0 = λ ts. IsInfeasible (length g.points) (map (fold_row (length g.points)) ts) (Some width) ms in
-      lifted_not_infeasible (length g.points) (Some width) rs ms (folds_over g s key rs faces rows at_most) lifted (subst P e k)
+  lifted_not_refuted at_most lifted width r = let i = refuted_on g s key rs faces rows width r in lifted_not_infeasible (length g.points) (Some width) rs i.0 (folds_over g s key rs faces rows at_most) lifted i.1

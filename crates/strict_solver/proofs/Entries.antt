@@ -1,8 +1,9 @@
 -- The entries of a table: a variable is basic, and has a line, or it is not.
-use Rattle.std.proofs.Common.{◌≡◌, ◌≢◌, ℕ, zero, suc, ◌<◌, ◌⊎◌, inl, inr, refl, sym, subst, ap, arith, List, [], ◌∷◌, length, get_or, Some, None, Option, true}
+use Rattle.std.proofs.Common.{◌≡◌, ◌≢◌, ℕ, ◌<◌, ◌⊎◌, inl, inr, refl, sym, subst, ap, List, length, get_or, Some, None, Option, true, ◌∙◌}
 use Rattle.std.specs.Prelude.{slice_get, is_none}
 use Rattle.ntfe_nums.proofs.Signs.{same_or}
 use Rattle.ntfe_model.specs.Solver.{Line}
+use Rattle.std.proofs.lemmas.Option.{slice_get-get_or}
 
 pub basic_or_not : (o : Option Line) → ((r : Line) × (o ≡ Some r)) ⊎ (o ≡ None)
 basic_or_not None = inr refl
@@ -37,6 +38,4 @@ line_or r None = r
 line_or r (Some q) = q
 
 pub slice_none : (s : List (Option Line)) (z : ℕ) → z < length s → get_or s z None ≡ None → slice_get s z ≡ Some None
-slice_none [] z h e = absurd (omega arith)
-slice_none (o ∷ s) zero h e = ap Some e
-slice_none (o ∷ s) (suc z) h e = slice_none s z (omega arith) e
+slice_none s z h e = slice_get-get_or s z None h ∙ ap Some e

@@ -18,6 +18,7 @@ use Rattle.strict_solver.specs.Continuing.{IsLowest}
 use Rattle.strict_solver.proofs.Moves.{IsGone}
 use Rattle.strict_solver.proofs.Forms.{zero_factor, reduced_parts, solved_for-holds, reduced-holds, with_put_in-holds, pos_some}
 use Rattle.strict_solver.proofs.Entries.{basic_or_not, not_both, both_some, none_unless}
+use Rattle.std.proofs.lemmas.Option.{get_or_from_slice_get, slice_get_within, slice_get-get_or}
 
 pub record IsLineOf (s : List (Option Line)) (r : Line) : Type 0 where
   pub count : length r.coefficients ≡ length s
@@ -37,14 +38,10 @@ in_table (o ∷ s) zero r e = omega arith
 in_table (o ∷ s) (suc z) r e = let h = in_table s z r e in omega arith
 
 pub get_here : (s : List (Option Line)) (z : ℕ) (o : Option Line) → slice_get s z ≡ Some o → (get_or s z None ≡ o) × (z < length s)
-get_here [] z o e = cc
-get_here (p ∷ s) zero o e = (cc, omega arith)
-get_here (p ∷ s) (suc z) o e = let h = get_here s z o e in (h.0, omega arith)
+get_here s z o e = (get_or_from_slice_get s z o None e, slice_get_within s z o e)
 
 pub get_there : (s : List (Option Line)) (z : ℕ) (r : Line) → get_or s z None ≡ Some r → slice_get s z ≡ Some (Some r)
-get_there [] z r e = cc
-get_there (p ∷ s) zero r e = ap Some e
-get_there (p ∷ s) (suc z) r e = get_there s z r e
+get_there s z r e = slice_get-get_or s z None (in_table s z r e) ∙ ap Some e
 
 -- a coefficient of the row that is put in
 pub coefficient-put_in : (q m : Line) (y b : ℕ) → b < length q.coefficients → b < length m.coefficients

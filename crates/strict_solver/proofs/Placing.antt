@@ -1,5 +1,5 @@
 -- Where the variables stand after a pivot, and the lines of a grid.
-use Rattle.std.proofs.Common.{◌≡◌, ◌≢◌, ℕ, zero, suc, ◌≤◌, ◌⊎◌, inl, inr, refl, sym, ap, ◌∙◌, subst, arith, ℤ, pos, ◌<ℤ◌, List, [], ◌∷◌, map, length, set, length-set, Option, Some, None}
+use Rattle.std.proofs.Common.{◌≡◌, ◌≢◌, ℕ, zero, suc, ◌⊎◌, inl, inr, refl, sym, ap, ◌∙◌, subst, arith, ℤ, pos, ◌<ℤ◌, List, [], ◌∷◌, map, length, set, length-set, Option, Some, None}
 use Rattle.std.specs.Prelude.{slice_get}
 use Rattle.std.proofs.lemmas.List.{length-map, get_or-map}
 use Rattle.ntfe_model.specs.Solver.{Line, coefficient_at}
@@ -25,14 +25,6 @@ set_elsewhere (z ∷ xs) (suc i) (suc j) x n = set_elsewhere xs i j x (λ e. n (
 
 pub same_column : (m n : ℕ) → Column m ≡ Column n → m ≡ n
 same_column m n e = cc
-
-abbrev row_number_of : Place → ℕ
-row_number_of (Row r) = r
-row_number_of (Column p) = 0
-
-abbrev column_of : Place → ℕ
-column_of (Row r) = 0
-column_of (Column p) = p
 
 -- ---- after a pivot
 module _ (places : List Place) (x y r p : ℕ) (ex : slice_get places x ≡ Some (Row r)) (ey : slice_get places y ≡ Some (Column p)) where
@@ -159,11 +151,6 @@ pub coefficient_there : (places : List Place) (row : List ℤ) (v : ℕ) (o : Pl
 coefficient_there places row v o e =
     let h = from_place places v o o e in
     get_or-map (number_at row) places v o (pos 0) h.0 ∙ ap (number_at row) h.1
-
-coefficient_past : (places : List Place) (row : List ℤ) (v : ℕ) → length places ≤ v → coefficient_at (line_in places row) v ≡ pos 0
-coefficient_past [] row v l = refl
-coefficient_past (o ∷ places) row zero l = absurd (omega arith)
-coefficient_past (o ∷ places) row (suc v) l = coefficient_past places row v (omega arith)
 
 -- each row of the table is a row of it
 pub lines-table : (s : ℕ) (places : List Place) (cells : List ℤ) → ((v r : ℕ) → slice_get places v ≡ Some (Row r) → pos 0 <ℤ number (row_at s cells r) 0) → IsTable (lines_by s places cells)

@@ -1,5 +1,5 @@
 -- The places of the start, one after the other.
-use Rattle.std.proofs.Common.{◌≡◌, ℕ, zero, suc, ◌+◌, ◌-◌, ◌<◌, ◌≤◌, ◌⊎◌, inl, inr, refl, sym, ap, ◌∙◌, arith, List, [], ◌∷◌, ◌++◌, length, Some}
+use Rattle.std.proofs.Common.{◌≡◌, ℕ, ◌+◌, ◌-◌, ◌<◌, ◌≤◌, ◌⊎◌, inl, inr, sym, ap, ◌∙◌, arith, List, length, Some}
 use Rattle.std.specs.Prelude.{slice_get, vec_capacity}
 use Rattle.strict_solver.specs.declared.place.Place.{Place}
 use Rattle.strict_solver.specs.declared.place.Place.TheVariants.{Row, Column}
@@ -15,21 +15,6 @@ pub record IsPlacedTo (old now : Grid) (n m : ℕ) : Type 0 where
   pub scratch : now.scratch ≡ old.scratch
   pub capacity : vec_capacity now.places ≡ vec_capacity old.places
   pub places : IsStartPlacing n m now.places.items
-
-push_there : {X : Type 0} (xs : List X) (y : X) (i : ℕ) → i ≡ length xs → slice_get (xs ++ y ∷ []) i ≡ Some y
-push_there [] y zero e = refl
-push_there [] y (suc i) e = absurd (omega arith)
-push_there (x ∷ xs) y zero e = absurd (omega arith)
-push_there (x ∷ xs) y (suc i) e = push_there xs y i (omega arith)
-
-pub push_before : {X : Type 0} (xs : List X) (y x : X) (i : ℕ) → slice_get xs i ≡ Some x → slice_get (xs ++ y ∷ []) i ≡ Some x
-push_before [] y x i e = cc
-push_before (z ∷ xs) y x zero e = e
-push_before (z ∷ xs) y x (suc i) e = push_before xs y x i e
-
-pub nothing_placed : (ps : List Place) → ps ≡ [] → IsStartPlacing 0 0 ps
-nothing_placed [] e = record { count = omega arith; heights = λ k l. absurd (omega arith); slacks = λ r l. absurd (omega arith) }
-nothing_placed (p ∷ ps) e = cc
 
 -- ---- such places are a placing
 module _ (n m : ℕ) (ps : List Place) (h : IsStartPlacing n m ps) where

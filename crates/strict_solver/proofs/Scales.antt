@@ -52,9 +52,6 @@ heights_same columns rs v w hs is r f g =
     f.scaling (subst P (sym h.1) g.scaling)).1
 
 -- ---- multipliers
-abbrev IsEntry : ℕ → ℕ × ℤ → Type 0
-IsEntry n e = (e.0 < n) × (pos 0 <ℤ e.1)
-
 entries : (m : ℕ → ℤ) (b a n : ℕ) → a + n ≤ b → All (λ (e : ℕ × ℤ). (e.0 < b) × (pos 0 <ℤ e.1)) (filter (λ e. int_lt (pos 0) e.1) (map (λ j. (j, m j)) (range_with_len a n)))
 entries m b a zero h = λ k d l. absurd (omega arith)
 entries m b a (suc n) h = by (int_lt (pos 0) (m a)) refl (filter (λ e. int_lt (pos 0) e.1) (map (λ j. (j, m j)) (range_with_len (a + 1) n))) (entries m b (a + 1) n (omega arith))

@@ -12,9 +12,8 @@ use Rattle.strict_solver.specs.Standing.{fold_sum, cell_at, constant_of, IsSized
 use Rattle.strict_solver.proofs.Elimination.{from_place, at_place}
 use Rattle.strict_solver.proofs.Standing.{place-basic}
 use Rattle.strict_solver.proofs.Moves.{move_of-feasible, moving-feasible}
-use Rattle.strict_solver.proofs.StandingRows.{last_place, idles, loads}
+use Rattle.strict_solver.proofs.StandingRows.{last_place, idles, loads, push_before}
 use Rattle.strict_solver.proofs.StandingMoves.{slack-row, basic, stuck, moves-to, none-below, ends}
-use Rattle.strict_solver.proofs.PlacingAll.{push_before}
 
 -- the memory is as it was, and the basis stands for a table of the run, with nothing left to load
 pub record IsSettling (old now : Basis) (fs : List Fold) : Type 0 where

@@ -4,9 +4,8 @@
 --     slack-value            what a slack's value is
 --     slack-line             a basic slack's line in a table of the run is one for its row
 --     idle-constant          where the slack is not basic, its line has the constant 0
-use Rattle.std.proofs.Common.{◌≡◌, ◌≢◌, ℕ, ◌+◌, ◌<◌, ◌⊎◌, inl, inr, refl, sym, ap, ◌∙◌, arith, ℤ, pos, negsuc, ◌+ℤ◌, ◌-ℤ◌, ◌*ℤ◌, ◌<ℤ◌, List, [], ◌∷◌, map, length, get_or, Some, None, Option}
+use Rattle.std.proofs.Common.{◌≡◌, ◌≢◌, ℕ, ◌+◌, ◌<◌, ◌⊎◌, inl, inr, refl, sym, ap, ◌∙◌, arith, ℤ, pos, negsuc, ◌+ℤ◌, ◌-ℤ◌, ◌*ℤ◌, ◌<ℤ◌, List, [], ◌∷◌, length, get_or, Some, None, Option}
 use Rattle.std.proofs.lemmas.Int.{ints}
-use Rattle.std.proofs.lemmas.List.{get_or-map, same_lists, length-map}
 use Rattle.ntfe_nums.proofs.Ring.{ring, product_zero, sum_zero}
 use Rattle.ntfe_nums.proofs.Ring.Expression.{var, num, plus, minus, times}
 use Rattle.ntfe_model.specs.Solver.{Line, Table, coefficient_at, start_line, start_table, Reaches}
@@ -18,8 +17,9 @@ use Rattle.strict_solver.proofs.Values.{common, values_by, common-positive, leng
 use Rattle.strict_solver.proofs.Runs.{AreRows, start_lines, start-at, start-length, start-is_table}
 use Rattle.strict_solver.proofs.Directions.{combination-one, IsDirection, direction_values, direction}
 use Rattle.strict_solver.proofs.Deciding.{combination-padded}
-use Rattle.strict_solver.proofs.Unique.{proportion, proportional-same, zero_left}
+use Rattle.strict_solver.proofs.Unique.{proportion, proportional-same, zero_left, proportional-lists}
 use Rattle.strict_solver.proofs.Entries.{basic_or_not}
+use Rattle.ntfe_nums.proofs.Signs.{product_exchanged}
 
 -- the values where the variables that are not basic are 0
 module _ (q : List ℤ) (s : List (Option Line)) (ws : IsTable s) where
@@ -73,21 +73,11 @@ module _ (q : List ℤ) (s : List (Option Line)) (ws : IsTable s) where
             ∙ ap (λ k. l.d *ℤ k) (sym (g.zeros b h.0 h.1))
 
     pub lowest-same : IsLowest l → IsLowest m → l ≡ m
-    lowest-same ll lm = proportional-same l m f.positive g.positive ll lm (λ i. first i ∷ constants-proportional i ∷ rest i)
-      where
-        first : m.d *ℤ l.d ≡ l.d *ℤ m.d
-        first = ring (m.d ∷ l.d ∷ []) (times (var 0) (var 1)) (times (var 1) (var 0)) refl
-
-        rest : map (λ z. m.d *ℤ z) l.coefficients ≡ map (λ z. l.d *ℤ z) m.coefficients
-        rest = same_lists (map (λ z. m.d *ℤ z) l.coefficients) (map (λ z. l.d *ℤ z) m.coefficients)
-            (let a = length-map l.coefficients (λ z. m.d *ℤ z) in let b = length-map m.coefficients (λ z. l.d *ℤ z) in let c = f.count in let d = g.count in omega arith)
-            (λ k d h.
-            (let a = length-map l.coefficients (λ z. m.d *ℤ z) in
-            let c = f.count in
-            let e = g.count in
-            get_or-map (λ z. m.d *ℤ z) l.coefficients k (pos 0) d (omega arith)
-            ∙ lines-proportional k (omega arith)
-            ∙ sym (get_or-map (λ z. l.d *ℤ z) m.coefficients k (pos 0) d (omega arith))))
+    lowest-same ll lm =
+        let c = f.count in
+        let d = g.count in
+        proportional-same l m f.positive g.positive ll lm
+        (λ i. product_exchanged m.d l.d i ∷ constants-proportional i ∷ proportional-lists m.d l.d l.coefficients m.coefficients (omega arith) (λ k h. lines-proportional k (omega arith)) i)
 
 -- ---- the slacks of a run's rows
 module _ (columns : ℕ) (rs : List (List ℤ)) (w : AreRows columns rs) (steps : ℕ) (t : Table) (r : Reaches columns rs None steps t) where

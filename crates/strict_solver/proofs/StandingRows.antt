@@ -1,7 +1,7 @@
 -- One more row for a basis that stands at the end of a run.
 --     loads      the row has a height that is not basic: one exchange leads to the next end
 --     idles      it has none: the basis goes on moving
-use Rattle.std.proofs.Common.{◌≡◌, ◌≢◌, ℕ, ◌+◌, ◌<◌, ◌≤◌, refl, sym, ap, ◌∙◌, subst, arith, ℤ, pos, ◌+ℤ◌, ◌*ℤ◌, List, [], ◌∷◌, ◌++◌, map, length, get_or, set, Some, None, Option}
+use Rattle.std.proofs.Common.{◌≡◌, ◌≢◌, ℕ, ◌+◌, ◌<◌, ◌≤◌, refl, sym, ap, ◌∙◌, subst, arith, ℤ, pos, ◌+ℤ◌, ◌*ℤ◌, List, [], ◌∷◌, ◌++◌, map, length, get_or, set, Some, None, Option, suc, zero}
 use Rattle.std.specs.Prelude.{slice_get}
 use Rattle.std.proofs.lemmas.List.{get_or-map, map-append}
 use Rattle.ntfe_nums.specs.Vectors.{sign}
@@ -32,12 +32,16 @@ use Rattle.strict_solver.proofs.Going.{going-loads, going-idles}
 use Rattle.strict_solver.proofs.SlackLines.{reached-table, reached-length}
 use Rattle.strict_solver.proofs.Standing.{raw-line, place-other, joins, pivoted}
 use Rattle.ntfe_model.specs.Solver.{start_table}
-use Rattle.strict_solver.proofs.PlacingAll.{push_before}
 
 -- a place that comes last
 pub last_place : {A : Type 0} (ps : List A) (o : A) → slice_get (ps ++ o ∷ []) (length ps) ≡ Some o
 last_place [] o = refl
 last_place (p ∷ ps) o = last_place ps o
+
+pub push_before : {X : Type 0} (xs : List X) (y x : X) (i : ℕ) → slice_get xs i ≡ Some x → slice_get (xs ++ y ∷ []) i ≡ Some x
+push_before [] y x i e = cc
+push_before (z ∷ xs) y x zero e = e
+push_before (z ∷ xs) y x (suc i) e = push_before xs y x i e
 
 one-more : (n : ℕ) (fs : List Fold) (f : Fold) → map (fold_row n) (fs ++ f ∷ []) ≡ map (fold_row n) fs ++ fold_row n f ∷ []
 one-more n fs f = map-append (fold_row n) fs (f ∷ [])

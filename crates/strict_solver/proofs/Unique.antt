@@ -1,8 +1,8 @@
 -- A table is determined by its basic variables and by the values at which its rows hold.
-use Rattle.std.proofs.Common.{◌≡◌, ◌≢◌, ℕ, ◌<◌, ◌⊎◌, inl, inr, refl, sym, ap, ◌∙◌, arith, ℤ, pos, negsuc, ◌+ℤ◌, ◌*ℤ◌, ◌<ℤ◌, List, [], ◌∷◌, map, length, get_or, Some, None, Option}
+use Rattle.std.proofs.Common.{◌≡◌, ◌≢◌, ℕ, ◌<◌, ◌⊎◌, inl, inr, refl, sym, ap, ◌∙◌, arith, ℤ, pos, negsuc, ◌+ℤ◌, ◌*ℤ◌, ◌<ℤ◌, List, [], ◌∷◌, map, length, get_or, Some, None, Option, suc}
 use Rattle.std.specs.Prelude.{is_none}
 use Rattle.std.proofs.lemmas.Int.{ints}
-use Rattle.std.proofs.lemmas.List.{get_or_default, get_or-map, same_lists, length-map}
+use Rattle.std.proofs.lemmas.List.{get_or_default, same_lists}
 use Rattle.ntfe_nums.proofs.Ring.{ring, sum_zero}
 use Rattle.ntfe_nums.proofs.Ring.Expression.{var, num, plus, minus, times}
 use Rattle.ntfe_model.specs.Solver.{Line, coefficient_at, line_numbers, IsReduced}
@@ -14,6 +14,7 @@ use Rattle.strict_solver.proofs.Pivots.{IsTable, AreLowest}
 use Rattle.strict_solver.proofs.Values.{common, values_by, common-positive, length-values, value-none, values-hold, combination-none}
 use Rattle.strict_solver.proofs.Directions.{combination-one, IsDirection, direction_values, direction}
 use Rattle.strict_solver.proofs.Entries.{basic_or_not}
+use Rattle.ntfe_nums.proofs.Signs.{product_exchanged}
 
 pub cancel : (m p q : ℤ) → m ≢ pos 0 → m *ℤ p ≡ m *ℤ q → p ≡ q
 cancel m p q n e = back (m *ℤ p) (m *ℤ q) m p q n (ring (m ∷ p ∷ q ∷ []) (minus (times (var 0) (var 1)) (times (var 0) (var 2))) (times (var 0) (minus (var 1) (var 2))) refl) e
@@ -26,6 +27,12 @@ proportion d g a b m v n e f =
     ∙ ring (g ∷ d ∷ v ∷ []) (times (var 0) (times (var 1) (var 2))) (times (var 1) (times (var 0) (var 2))) refl
     ∙ ap (λ z. d *ℤ z) f
     ∙ ring (m ∷ d ∷ b ∷ []) (times (var 1) (times (var 2) (var 0))) (times (var 0) (times (var 1) (var 2))) refl)
+
+pub proportional-lists : (a b : ℤ) (xs ys : List ℤ) → length xs ≡ length ys → ((k : ℕ) → k < length xs → a *ℤ get_or xs k (pos 0) ≡ b *ℤ get_or ys k (pos 0)) → map (λ z. a *ℤ z) xs ≡ map (λ z. b *ℤ z) ys
+proportional-lists a b [] [] l h = refl
+proportional-lists a b [] (y ∷ ys) l h = absurd (omega arith)
+proportional-lists a b (x ∷ xs) [] l h = absurd (omega arith)
+proportional-lists a b (x ∷ xs) (y ∷ ys) l h = λ i. h 0 (omega arith) i ∷ proportional-lists a b xs ys (omega arith) (λ k g. h (suc k) (omega arith)) i
 
 -- lines in lowest form that are proportional are equal
 pub proportional-same : (r q : Line) → pos 0 <ℤ r.d → pos 0 <ℤ q.d → IsLowest r → IsLowest q → map (λ z. q.d *ℤ z) (line_numbers r) ≡ map (λ z. r.d *ℤ z) (line_numbers q) → r ≡ q
@@ -112,21 +119,11 @@ module _ (s t : List (Option Line)) (len : length s ≡ length t) (ws : IsTable 
             ∙ ap (λ k. r.d *ℤ k) (sym ((wt z q eq).zeros b o.0 o.1))
 
     lines-same : r ≡ q
-    lines-same = proportional-same r q (ws z r er).positive (wt z q eq).positive (ls z r er) (lt z q eq) (λ i. first i ∷ constants i ∷ rest i)
-      where
-        first : q.d *ℤ r.d ≡ r.d *ℤ q.d
-        first = ring (q.d ∷ r.d ∷ []) (times (var 0) (var 1)) (times (var 1) (var 0)) refl
-
-        rest : map (λ z. q.d *ℤ z) r.coefficients ≡ map (λ z. r.d *ℤ z) q.coefficients
-        rest = same_lists (map (λ z. q.d *ℤ z) r.coefficients) (map (λ z. r.d *ℤ z) q.coefficients)
-            (let a = length-map r.coefficients (λ z. q.d *ℤ z) in let b = length-map q.coefficients (λ z. r.d *ℤ z) in let c = (ws z r er).count in let d = (wt z q eq).count in omega arith)
-            (λ k d l.
-            (let a = length-map r.coefficients (λ z. q.d *ℤ z) in
-            let c = (ws z r er).count in
-            let e = (wt z q eq).count in
-            get_or-map (λ z. q.d *ℤ z) r.coefficients k (pos 0) d (omega arith)
-            ∙ each k (omega arith)
-            ∙ sym (get_or-map (λ z. r.d *ℤ z) q.coefficients k (pos 0) d (omega arith))))
+    lines-same =
+        let c = (ws z r er).count in
+        let d = (wt z q eq).count in
+        proportional-same r q (ws z r er).positive (wt z q eq).positive (ls z r er) (lt z q eq)
+        (λ i. product_exchanged q.d r.d i ∷ constants i ∷ proportional-lists q.d r.d r.coefficients q.coefficients (omega arith) (λ k l. each k (omega arith)) i)
 
   pub same-tables : s ≡ t
   same-tables = same_lists s t len (λ k d l. get_or_default s k d None l ∙ at k (basic_or_not (get_or s k None)) ∙ get_or_default t k None d (omega arith))

@@ -1,7 +1,7 @@
 -- A line over one more variable, which comes last and which the line does not have.
 --     solved-wider, put_in-wider, reduced-wider      what a pivot makes of such lines
 --     reduced-kept                                   where a line has 0 at the variable that is put in, it stays
-use Rattle.std.proofs.Common.{◌≡◌, ℕ, zero, suc, ◌<◌, refl, sym, ap, ◌∙◌, subst, arith, ℤ, pos, negsuc, ◌+ℤ◌, ◌*ℤ◌, neg_ℤ, ◌<ℤ◌, List, [], ◌∷◌, ◌++◌, map, length, length-append, get_or, set, Some, None, Option}
+use Rattle.std.proofs.Common.{◌≡◌, ℕ, zero, suc, ◌<◌, refl, sym, ap, ◌∙◌, subst, arith, ℤ, pos, negsuc, ◌+ℤ◌, ◌*ℤ◌, neg_ℤ, ◌<ℤ◌, List, [], ◌∷◌, ◌++◌, map, length, length-append, get_or, set, Some, None, Option, length-set}
 use Rattle.std.specs.Prelude.{zip, unsigned_abs, is_none}
 use Rattle.std.specs.Int.{◌∣◌}
 use Rattle.std.proofs.lemmas.Int.{ints}
@@ -35,11 +35,6 @@ set-wider [] y v l = absurd (omega arith)
 set-wider (e ∷ es) zero v l = refl
 set-wider (e ∷ es) (suc y) v l = ap (λ zs. e ∷ zs) (set-wider es y v (omega arith))
 
-set-length : (es : List ℤ) (y : ℕ) (v : ℤ) → length (set es y v) ≡ length es
-set-length [] y v = refl
-set-length (e ∷ es) zero v = refl
-set-length (e ∷ es) (suc y) v = ap suc (set-length es y v)
-
 zipped-wider : (g : ℤ × ℤ → ℤ) (xs ys : List ℤ) → length xs ≡ length ys → g (pos 0, pos 0) ≡ pos 0 → map g (zip (xs ++ pos 0 ∷ []) (ys ++ pos 0 ∷ [])) ≡ map g (zip xs ys) ++ pos 0 ∷ []
 zipped-wider g [] [] l h = ap (λ z. z ∷ []) h
 zipped-wider g [] (y ∷ ys) l h = absurd (omega arith)
@@ -67,7 +62,7 @@ solved-wider r x y lx ly = ap by (zero_after r.coefficients y) ∙ (λ i. record
     all =
         let f : ℤ → ℤ = λ e. neg_ℤ (sign (coefficient_at r y) *ℤ e) in
         let l = length-map r.coefficients f in
-        let k = set-length (map f r.coefficients) y (pos 0) in
+        let k = length-set (map f r.coefficients) y (pos 0) in
         ap (λ zs. set (set zs y (pos 0)) x (sign (coefficient_at r y) *ℤ r.d)) (mapped-wider f r.coefficients (neg_zero (sign (coefficient_at r y))))
         ∙ ap (λ zs. set zs x (sign (coefficient_at r y) *ℤ r.d)) (set-wider (map f r.coefficients) y (pos 0) (omega arith))
         ∙ set-wider (set (map f r.coefficients) y (pos 0)) x (sign (coefficient_at r y) *ℤ r.d) (omega arith)
@@ -89,7 +84,7 @@ put_in-wider q y m ly l =
     all =
         let g : ℤ × ℤ → ℤ = λ e. e.0 *ℤ m.d +ℤ coefficient_at q y *ℤ e.1 in
         ap (λ zs. map g (zip zs (m.coefficients ++ pos 0 ∷ []))) (set-wider q.coefficients y (pos 0) ly)
-        ∙ zipped-wider g (set q.coefficients y (pos 0)) m.coefficients (set-length q.coefficients y (pos 0) ∙ l) (no_terms m.d (coefficient_at q y))
+        ∙ zipped-wider g (set q.coefficients y (pos 0)) m.coefficients (length-set q.coefficients y (pos 0) ∙ l) (no_terms m.d (coefficient_at q y))
 
 pub reduced-wider : (raw r : Line) → IsReduced raw r → IsReduced (wider raw) (wider r)
 reduced-wider raw r h = record {

@@ -4,9 +4,8 @@ use Rattle.strict_solver.specs.declared.place.Place.TheVariants.{Row, Column}
 use Rattle.strict_solver.specs.declared.basis.Basis.{Basis}
 use Rattle.strict_solver.specs.Standing.{IsExchanged}
 use Rattle.strict_solver.proofs.Settling.{end_enters, still_first, end_loads}
-use Rattle.strict_solver.proofs.StandingRows.{last_place}
+use Rattle.strict_solver.proofs.StandingRows.{last_place, push_before}
 use Rattle.strict_solver.proofs.basis.Basis.load.Goals as goal
-use Rattle.strict_solver.proofs.PlacingAll.{push_before}
 
 pub exchange-requires-clause-first : goal.exchange-requires-clause-first
 exchange-requires-clause-first c =
