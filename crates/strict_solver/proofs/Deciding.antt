@@ -17,7 +17,7 @@ use Rattle.strict_solver.proofs.Forms.{zero_factor}
 use Rattle.strict_solver.proofs.Pivots.{IsTable, run-holds, run-held}
 use Rattle.strict_solver.proofs.Bland.{IsLoaded}
 use Rattle.strict_solver.proofs.Runs.{AreRows, start_lines, start-get, start-at, start-length, start-is_table, start-loading, run-loading, end-loaded}
-use Rattle.strict_solver.proofs.Directions.{combination-one, combination-more, IsDirection, direction_values, direction}
+use Rattle.strict_solver.proofs.Directions.{combination-one, combination-more, IsDirection, direction_values, direction, direction-sum}
 use Rattle.strict_solver.proofs.GoingOn.{start-wider, rows_short, GoesOn, end-length, end-table, going_on-feasible}
 use Rattle.strict_solver.proofs.Entries.{basic_or_not, not_both}
 use Rattle.strict_solver.proofs.Feasible.{combination-zeros}
@@ -127,12 +127,7 @@ module _ (columns : ℕ) (rs : List (List ℤ)) (q : List ℤ) (w : AreRows colu
     unfolding t
     moved =
         f.value (pos 0) vs way.count way.holds ∙ zero_left l.c (combination l.coefficients vs)
-        ∙ combination-one l.coefficients vs j (λ k n. each k n (basic_or_not (get_or end.lines k None)))
-        ∙ ap (λ v. coefficient_at l j *ℤ v) way.at
-      where
-        each : (k : ℕ) → k ≢ j → ((o : Line) × (get_or end.lines k None ≡ Some o)) ⊎ (get_or end.lines k None ≡ None) → (get_or l.coefficients k (pos 0) ≡ pos 0) ⊎ (get_or vs k (pos 0) ≡ pos 0)
-        each k n (inl h) = inl (f.zeros k h.0 h.1)
-        each k n (inr h) = inr (way.others k n h)
+        ∙ direction-sum end.lines j vs way l.coefficients f.zeros
 
     -- what the line of the variable beside those of the end says
     line_sum : g.follows.line.d *ℤ get_or (vs ++ t ∷ []) g.basic (pos 0) ≡ coefficient_at g.follows.line j *ℤ way.size +ℤ coefficient_at g.follows.line (length end.lines) *ℤ t

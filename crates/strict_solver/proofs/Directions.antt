@@ -125,3 +125,12 @@ module _ (s : List (Option Line)) (w : IsTable s) (y : ℕ) (l : y < length s) (
     others = direction-others;
     holds = direction-holds;
   }
+
+-- a line with 0 at the basic variables
+pub direction-sum : (s : List (Option Line)) (b : ℕ) (vs : List ℤ) (way : IsDirection s b vs) (es : List ℤ) → ((k : ℕ) (o : Line) → get_or s k None ≡ Some o → get_or es k (pos 0) ≡ pos 0)
+    → combination es vs ≡ get_or es b (pos 0) *ℤ way.size
+direction-sum s b vs way es h = combination-one es vs b (λ k n. at k n (basic_or_not (get_or s k None))) ∙ ap (λ v. get_or es b (pos 0) *ℤ v) way.at
+  where
+    at : (k : ℕ) → k ≢ b → ((o : Line) × (get_or s k None ≡ Some o)) ⊎ (get_or s k None ≡ None) → (get_or es k (pos 0) ≡ pos 0) ⊎ (get_or vs k (pos 0) ≡ pos 0)
+    at k n (inl o) = inl (h k o.0 o.1)
+    at k n (inr o) = inr (way.others k n o)

@@ -13,9 +13,9 @@ use Rattle.strict_solver.specs.Equations.{combination, Holds}
 use Rattle.strict_solver.specs.Continuing.{IsLowest, IsLineFor}
 use Rattle.strict_solver.proofs.Forms.{zero_factor}
 use Rattle.strict_solver.proofs.Pivots.{IsTable, run-table, run-length, run-held}
-use Rattle.strict_solver.proofs.Values.{common, values_by, common-positive, length-values, value-none, values-hold, combination-none}
+use Rattle.strict_solver.proofs.Values.{common, values_by, common-positive, length-values, value-none, values-hold, values-sum}
 use Rattle.strict_solver.proofs.Runs.{AreRows, start_lines, start-at, start-length, start-is_table}
-use Rattle.strict_solver.proofs.Directions.{combination-one, IsDirection, direction_values, direction}
+use Rattle.strict_solver.proofs.Directions.{IsDirection, direction_values, direction, direction-sum}
 use Rattle.strict_solver.proofs.Deciding.{combination-padded}
 use Rattle.strict_solver.proofs.Unique.{proportion, proportional-same, zero_left, proportional-lists}
 use Rattle.strict_solver.proofs.Entries.{basic_or_not}
@@ -32,11 +32,7 @@ module _ (q : List ℤ) (s : List (Option Line)) (ws : IsTable s) where
   pub still-value : (l : Line) → IsLineFor q s l → l.d *ℤ (combination q (values_by (pos 1) s) -ℤ pos 1 *ℤ common s) ≡ l.c *ℤ (pos 1 *ℤ common s)
   still-value l f =
       f.value (pos 1 *ℤ common s) (values_by (pos 1) s) (length-values (pos 1) s) (values-hold (pos 1) s ws)
-      ∙ ap (λ k. l.c *ℤ (pos 1 *ℤ common s) +ℤ k) (combination-none l.coefficients (values_by (pos 1) s) (λ k. at k (basic_or_not (get_or s k None)))) ∙ sum_zero (l.c *ℤ (pos 1 *ℤ common s))
-    where
-      at : (k : ℕ) → ((o : Line) × (get_or s k None ≡ Some o)) ⊎ (get_or s k None ≡ None) → (get_or l.coefficients k (pos 0) ≡ pos 0) ⊎ (get_or (values_by (pos 1) s) k (pos 0) ≡ pos 0)
-      at k (inl h) = inl (f.zeros k h.0 h.1)
-      at k (inr h) = inr (value-none (pos 1) s k h)
+      ∙ ap (λ k. l.c *ℤ (pos 1 *ℤ common s) +ℤ k) (values-sum (pos 1) s l.coefficients f.zeros) ∙ sum_zero (l.c *ℤ (pos 1 *ℤ common s))
 
   module _ (l m : Line) (f : IsLineFor q s l) (g : IsLineFor q s m) where
     pub constants-proportional : m.d *ℤ l.c ≡ l.d *ℤ m.c
@@ -53,11 +49,7 @@ module _ (q : List ℤ) (s : List (Option Line)) (ws : IsTable s) where
       along : (k : Line) → IsLineFor q s k → k.d *ℤ (combination q vs -ℤ pos 0) ≡ coefficient_at k b *ℤ way.size
       along k h =
           h.value (pos 0) vs way.count way.holds ∙ zero_left k.c (combination k.coefficients vs)
-          ∙ combination-one k.coefficients vs b (λ j a. at j a (basic_or_not (get_or s j None))) ∙ ap (λ v. coefficient_at k b *ℤ v) way.at
-        where
-          at : (j : ℕ) → j ≢ b → ((o : Line) × (get_or s j None ≡ Some o)) ⊎ (get_or s j None ≡ None) → (get_or k.coefficients j (pos 0) ≡ pos 0) ⊎ (get_or vs j (pos 0) ≡ pos 0)
-          at j a (inl o) = inl (h.zeros j o.0 o.1)
-          at j a (inr o) = inr (way.others j a o)
+          ∙ direction-sum s b vs way k.coefficients h.zeros
 
       free : m.d *ℤ coefficient_at l b ≡ l.d *ℤ coefficient_at m b
       free = proportion l.d m.d (coefficient_at l b) (coefficient_at m b) way.size (combination q vs -ℤ pos 0) (λ e. let a = way.positive in omega (arith, ints)) (along l f) (along m g)

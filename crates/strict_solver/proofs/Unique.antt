@@ -11,8 +11,8 @@ use Rattle.strict_solver.specs.Continuing.{IsLowest}
 use Rattle.strict_solver.proofs.Forms.{back}
 use Rattle.strict_solver.proofs.One.{reduced_same}
 use Rattle.strict_solver.proofs.Pivots.{IsTable, AreLowest}
-use Rattle.strict_solver.proofs.Values.{common, values_by, common-positive, length-values, value-none, values-hold, combination-none}
-use Rattle.strict_solver.proofs.Directions.{combination-one, IsDirection, direction_values, direction}
+use Rattle.strict_solver.proofs.Values.{common, values_by, common-positive, length-values, values-hold, values-sum}
+use Rattle.strict_solver.proofs.Directions.{IsDirection, direction_values, direction, direction-sum}
 use Rattle.strict_solver.proofs.Entries.{basic_or_not}
 use Rattle.ntfe_nums.proofs.Signs.{product_exchanged}
 
@@ -62,23 +62,19 @@ zero_left c a = ring (c ∷ a ∷ []) (plus (times (var 0) (num (pos 0))) (var 1
 module _ (s t : List (Option Line)) (len : length s ≡ length t) (ws : IsTable s) (wt : IsTable t) (ls : AreLowest s) (lt : AreLowest t) (basics : (z : ℕ) → is_none (get_or s z None) ≡ is_none (get_or t z None))
     (same : (one : ℤ) (vs : List ℤ) → length vs ≡ length s → Holds one vs s → Holds one vs t) where
   module _ (z : ℕ) (r q : Line) (er : get_or s z None ≡ Some r) (eq : get_or t z None ≡ Some q) where
+    -- the line of t has 0 at what is basic in s
+    there : (k : ℕ) (o : Line) → get_or s k None ≡ Some o → coefficient_at q k ≡ pos 0
+    there k o e = let h = as_some (get_or s k None) (get_or t k None) o (basics k) e in (wt z q eq).zeros k h.0 h.1
+
     constants : q.d *ℤ r.c ≡ r.d *ℤ q.c
     constants =
         proportion r.d q.d r.c q.c (pos 1 *ℤ common s) (get_or (values_by (pos 1) s) z (pos 0)) some
-        (values-hold (pos 1) s ws z r er ∙ ap (λ k. r.c *ℤ (pos 1 *ℤ common s) +ℤ k) (combination-none r.coefficients (values_by (pos 1) s) (λ k. in_s k (basic_or_not (get_or s k None)))) ∙ sum_zero (r.c *ℤ (pos 1 *ℤ common s)))
+        (values-hold (pos 1) s ws z r er ∙ ap (λ k. r.c *ℤ (pos 1 *ℤ common s) +ℤ k) (values-sum (pos 1) s r.coefficients (ws z r er).zeros) ∙ sum_zero (r.c *ℤ (pos 1 *ℤ common s)))
         (same (pos 1 *ℤ common s) (values_by (pos 1) s) (length-values (pos 1) s) (values-hold (pos 1) s ws) z q eq
-        ∙ ap (λ k. q.c *ℤ (pos 1 *ℤ common s) +ℤ k) (combination-none q.coefficients (values_by (pos 1) s) (λ k. in_t k (basic_or_not (get_or t k None)))) ∙ sum_zero (q.c *ℤ (pos 1 *ℤ common s)))
+        ∙ ap (λ k. q.c *ℤ (pos 1 *ℤ common s) +ℤ k) (values-sum (pos 1) s q.coefficients there) ∙ sum_zero (q.c *ℤ (pos 1 *ℤ common s)))
       where
         some : pos 1 *ℤ common s ≢ pos 0
         some e = let a = common-positive s (λ z r e. (ws z r e).positive) in let b : pos 1 *ℤ common s ≡ common s = ring (common s ∷ []) (times (num (pos 1)) (var 0)) (var 0) refl in omega (arith, ints)
-
-        in_s : (k : ℕ) → ((o : Line) × (get_or s k None ≡ Some o)) ⊎ (get_or s k None ≡ None) → (get_or r.coefficients k (pos 0) ≡ pos 0) ⊎ (get_or (values_by (pos 1) s) k (pos 0) ≡ pos 0)
-        in_s k (inl h) = inl ((ws z r er).zeros k h.0 h.1)
-        in_s k (inr h) = inr (value-none (pos 1) s k h)
-
-        in_t : (k : ℕ) → ((o : Line) × (get_or t k None ≡ Some o)) ⊎ (get_or t k None ≡ None) → (get_or q.coefficients k (pos 0) ≡ pos 0) ⊎ (get_or (values_by (pos 1) s) k (pos 0) ≡ pos 0)
-        in_t k (inl h) = inl ((wt z q eq).zeros k h.0 h.1)
-        in_t k (inr h) = inr (value-none (pos 1) s k (as_none (get_or s k None) (get_or t k None) (basics k) h))
 
     module _ (b : ℕ) (l : b < length s) (n : get_or s b None ≡ None) where
       vs : List ℤ
@@ -91,21 +87,11 @@ module _ (s t : List (Option Line)) (len : length s ≡ length t) (ws : IsTable 
       free : q.d *ℤ coefficient_at r b ≡ r.d *ℤ coefficient_at q b
       free =
           proportion r.d q.d (coefficient_at r b) (coefficient_at q b) way.size (get_or vs z (pos 0)) some
-          (way.holds z r er ∙ zero_left r.c (combination r.coefficients vs)
-          ∙ combination-one r.coefficients vs b (λ k a. in_s k a (basic_or_not (get_or s k None))) ∙ ap (λ v. coefficient_at r b *ℤ v) way.at)
-          (same (pos 0) vs way.count way.holds z q eq ∙ zero_left q.c (combination q.coefficients vs)
-          ∙ combination-one q.coefficients vs b (λ k a. in_t k a (basic_or_not (get_or t k None))) ∙ ap (λ v. coefficient_at q b *ℤ v) way.at)
+          (way.holds z r er ∙ zero_left r.c (combination r.coefficients vs) ∙ direction-sum s b vs way r.coefficients (ws z r er).zeros)
+          (same (pos 0) vs way.count way.holds z q eq ∙ zero_left q.c (combination q.coefficients vs) ∙ direction-sum s b vs way q.coefficients there)
         where
           some : way.size ≢ pos 0
           some e = let a = way.positive in omega (arith, ints)
-
-          in_s : (k : ℕ) → k ≢ b → ((o : Line) × (get_or s k None ≡ Some o)) ⊎ (get_or s k None ≡ None) → (get_or r.coefficients k (pos 0) ≡ pos 0) ⊎ (get_or vs k (pos 0) ≡ pos 0)
-          in_s k a (inl h) = inl ((ws z r er).zeros k h.0 h.1)
-          in_s k a (inr h) = inr (way.others k a h)
-
-          in_t : (k : ℕ) → k ≢ b → ((o : Line) × (get_or t k None ≡ Some o)) ⊎ (get_or t k None ≡ None) → (get_or q.coefficients k (pos 0) ≡ pos 0) ⊎ (get_or vs k (pos 0) ≡ pos 0)
-          in_t k a (inl h) = inl ((wt z q eq).zeros k h.0 h.1)
-          in_t k a (inr h) = inr (way.others k a (as_none (get_or s k None) (get_or t k None) (basics k) h))
 
     each : (b : ℕ) → b < length s → q.d *ℤ coefficient_at r b ≡ r.d *ℤ coefficient_at q b
     each b l = by (basic_or_not (get_or s b None))

@@ -74,16 +74,20 @@ combination-none [] vs h = refl
 combination-none (e ∷ es) [] h = refl
 combination-none (e ∷ es) (v ∷ vs) h = (λ i. zero_term e v (h zero) i +ℤ combination-none es vs (λ k. h (suc k)) i)
 
+-- a line with 0 at the basic variables
+pub values-sum : (m : ℤ) (s : List (Option Line)) (es : List ℤ) → ((k : ℕ) (o : Line) → get_or s k None ≡ Some o → get_or es k (pos 0) ≡ pos 0) → combination es (values_by m s) ≡ pos 0
+values-sum m s es h = combination-none es (values_by m s) (λ k. at k (basic_or_not (get_or s k None)))
+  where
+    at : (k : ℕ) → ((o : Line) × (get_or s k None ≡ Some o)) ⊎ (get_or s k None ≡ None) → (get_or es k (pos 0) ≡ pos 0) ⊎ (get_or (values_by m s) k (pos 0) ≡ pos 0)
+    at k (inl o) = inl (h k o.0 o.1)
+    at k (inr o) = inr (value-none m s k o)
+
 -- the values solve the rows
 pub values-hold : (m : ℤ) (s : List (Option Line)) → IsTable s → Holds (m *ℤ common s) (values_by m s) s
 values-hold m s w z r e =
     value-some m s z r e
     ∙ ring (m ∷ common s ∷ r.c ∷ []) (times (times (var 0) (var 1)) (var 2)) (plus (times (var 2) (times (var 0) (var 1))) (num (pos 0))) refl
-    ∙ ap (λ k. r.c *ℤ (m *ℤ common s) +ℤ k) (sym (combination-none r.coefficients (values_by m s) (λ k. at k (basic_or_not (get_or s k None)))))
-  where
-    at : (k : ℕ) → ((q : Line) × (get_or s k None ≡ Some q)) ⊎ (get_or s k None ≡ None) → (get_or r.coefficients k (pos 0) ≡ pos 0) ⊎ (get_or (values_by m s) k (pos 0) ≡ pos 0)
-    at k (inl h) = inl ((w z r e).zeros k h.0 h.1)
-    at k (inr h) = inr (value-none m s k h)
+    ∙ ap (λ k. r.c *ℤ (m *ℤ common s) +ℤ k) (sym (values-sum m s r.coefficients (w z r e).zeros))
 
 -- a sum without positive terms, with a negative one
 pub combination-at_most : (es vs : List ℤ) → ((k : ℕ) → (get_or es k (pos 0) *ℤ get_or vs k (pos 0)) ≤ℤ pos 0) → combination es vs ≤ℤ pos 0
