@@ -32,9 +32,6 @@ left_over i j m n e f l d = grind (arith, e, f, l, d)
 pub kept_still : (before after : Keeps) → KeepsAll before after → (f n : ℕ) → KeepsItem before f n → KeepsItem after f n
 kept_still before after k f n (x, e) = (x, k f n x e)
 
-pub kept_both : (first second third : Keeps) → KeepsAll first second → KeepsAll second third → KeepsAll first third
-kept_both first second third h k f n x e = k f n x (h f n x e)
-
 -- one more item is kept
 pub head_kept : (before after : Keeps) (key : List ℕ) (f : ℕ) → KeepsAll before after → ((k : ℕ) → k < f → KeepsItem before k (get_or key k 0)) → KeepsItem after f (get_or key f 0)
     → (k : ℕ) → k < f + 1 → KeepsItem after k (get_or key k 0)

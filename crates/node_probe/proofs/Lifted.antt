@@ -1,10 +1,11 @@
 -- Folds that are positive at some heights do not cancel: the sum of positive multiples of them is positive.
-use Rattle.std.proofs.Common.{◌≡◌, ℕ, zero, suc, ◌<◌, ◌≤◌, sym, ap, ◌∙◌, subst, arith, ℤ, pos, negsuc, ◌+ℤ◌, ◌*ℤ◌, ◌<ℤ◌, List, [], ◌∷◌, length, map, get_or}
+use Rattle.std.proofs.Common.{◌≡◌, ℕ, ◌<◌, ◌≤◌, sym, ap, ◌∙◌, subst, arith, ℤ, pos, ◌+ℤ◌, ◌*ℤ◌, ◌<ℤ◌, List, [], ◌∷◌, length, map, get_or}
 use Rattle.std.specs.Prelude.{All, Option, Some}
 use Rattle.std.proofs.lemmas.Int.{ints}
 use Rattle.std.proofs.lemmas.List.{length-map, get_or-map}
 use Rattle.std.proofs.lemmas.List.Elements.{All-head, All-tail}
 use Rattle.std.proofs.lemmas.Option.{slice_get-get_or}
+use Rattle.ntfe_nums.proofs.Signs.{positive_some, positive_product, sum_positive}
 use Rattle.ntfe_model.specs.Shapes.{Shape, IsShape}
 use Rattle.ntfe_model.specs.Choices.{fold_value}
 use Rattle.ntfe_model.specs.Solver.{fold_row, IsInfeasible}
@@ -18,17 +19,9 @@ use Rattle.strict_solver.proofs.Outcome.{are_rows}
 use Rattle.strict_solver.proofs.Scales.{infeasible-positive, infeasible-some}
 use Rattle.node_probe.specs.Heads.{AreHeadRows}
 use Rattle.node_probe.specs.Lifted.{AreLifted}
-use Rattle.node_probe.proofs.Heads.{head_folds_fixed}
-use Rattle.node_probe.proofs.Solutions.{folds_over}
+use Rattle.node_probe.proofs.Solutions.{folds_over, refuted_on}
 
 -- ---- sums of positive multiples
-
-positive_product : (x y : ℤ) → pos 0 <ℤ x → pos 0 <ℤ y → pos 0 <ℤ (x *ℤ y)
-positive_product (pos zero) y h k = absurd (omega (arith, ints, h))
-positive_product (pos (suc m)) (pos zero) h k = absurd (omega (arith, ints, k))
-positive_product (pos (suc m)) (pos (suc n)) h k = omega (arith, ints)
-positive_product (pos (suc m)) (negsuc n) h k = absurd (omega (arith, ints, k))
-positive_product (negsuc m) y h k = absurd (omega (arith, ints, h))
 
 -- each entry is of a row below n, so many times
 abbrev IsTimes : ℕ → ℕ × ℤ → Type 0
@@ -45,10 +38,7 @@ module _ (n : ℕ) (f : ℕ → ℤ) (each : (j : ℕ) → j < n → pos 0 <ℤ 
       last : (x : ℤ) → pos 0 <ℤ x → pos 0 <ℤ (x +ℤ pos 0)
       last x p = omega (arith, ints, p)
   weighted_positive (e ∷ d ∷ ms) l a =
-      both (e.1 *ℤ f e.0) (weighted (d ∷ ms) f) (product e (All-head (IsTimes n) e (d ∷ ms) a)) (weighted_positive (d ∷ ms) (omega arith) (All-tail (IsTimes n) e (d ∷ ms) a))
-    where
-      both : (x y : ℤ) → pos 0 <ℤ x → pos 0 <ℤ y → pos 0 <ℤ (x +ℤ y)
-      both x y p q = omega (arith, ints, p, q)
+      sum_positive (e.1 *ℤ f e.0) (weighted (d ∷ ms) f) (product e (All-head (IsTimes n) e (d ∷ ms) a)) (weighted_positive (d ∷ ms) (omega arith) (All-tail (IsTimes n) e (d ∷ ms) a))
 
 -- ---- folds
 
@@ -58,7 +48,7 @@ no_fold = record { a = 0; b = 0; c = 0; d = 0; alpha = pos 0; beta = pos 0 }
 -- the solver is not infeasible on folds that are positive at some heights
 pub lifted_not_infeasible : (n : ℕ) (width : Option ℕ) (rs : List Fold) (ms : List (ℕ × ℤ)) → AreFoldsOver n rs → AreLifted n rs → IsInfeasible n (map (fold_row n) rs) width ms → ⊥
 lifted_not_infeasible n width rs ms over (w, count, lifts) h =
-    clash (weighted ms value) (weighted_positive (length rows) value positive ms (infeasible-some n rows width ms (are_rows n rs) h) (infeasible-positive n rows width ms h))
+    positive_some (weighted ms value) (weighted_positive (length rows) value positive ms (infeasible-some n rows width ms (are_rows n rs) h) (infeasible-positive n rows width ms h))
     (infeasible-cancels n rows width ms (are_rows n rs) h w count)
   where
     rows : List (List ℤ)
@@ -66,9 +56,6 @@ lifted_not_infeasible n width rs ms over (w, count, lifts) h =
 
     value : ℕ → ℤ
     value j = combination (get_or rows j []) w
-
-    clash : (x : ℤ) → pos 0 <ℤ x → x ≡ pos 0 → ⊥
-    clash x l q = absurd (omega (arith, ints, l, q))
 
     positive : (j : ℕ) → j < length rows → pos 0 <ℤ value j
     positive j l =
@@ -81,7 +68,4 @@ lifted_not_infeasible n width rs ms over (w, count, lifts) h =
 module _ (g : Shape) (s : IsShape g) (key : List ℕ) (rs : List Fold) (faces : List ℕ) (rows : AreHeadRows g key rs faces) where
   -- nor is it on those of a head
   pub lifted_not_refuted : length key ≤ length g.faces → AreLifted (length g.points) rs → (width : ℕ) → IsRefutedAt g width key → ⊥
-  lifted_not_refuted at_most lifted width (qs, ms, folds, k) =
-      let e = head_folds_fixed g 0 key qs rs folds rows.folds in
-      let P : List Fold → Type 0 = λ ts. IsInfeasible (length g.points) (map (fold_row (length g.points)) ts) (Some width) ms in
-      lifted_not_infeasible (length g.points) (Some width) rs ms (folds_over g s key rs faces rows at_most) lifted (subst P e k)
+  lifted_not_refuted at_most lifted width r = let i = refuted_on g s key rs faces rows width r in lifted_not_infeasible (length g.points) (Some width) rs i.0 (folds_over g s key rs faces rows at_most) lifted i.1

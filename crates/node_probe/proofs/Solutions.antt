@@ -55,19 +55,6 @@ module _ (g : Shape) (s : IsShape g) (key : List ℕ) (rs : List Fold) (faces : 
           record { a = k.0.0; b = k.0.1; c = k.0.2; d = k.0.3; alpha = k.1.0; beta = k.1.1 }
 
   -- heights that the solver finds on all folds of a choice make it a class
-  pub class_of : AllItemsExist g key → last_number key < item_limit g → length key ≡ length g.faces → (width : ℕ) (w : List ℤ) → IsFeasible (length g.points) (map (fold_row (length g.points)) rs) (Some width) w
-      → (length w ≡ length g.points) × All (λ f. pos 1 ≤ℤ fold_value w f) rs → IsClass g key w
-  class_of items near faces_are width w h k = (
-    record { faces = faces_are; items = λ f l. items f (omega (arith, l, faces_are)) },
-    near,
-    folds_extend g s w k.0 key faces_are rs rows.folds (All-weaker (λ f. pos 1 ≤ℤ fold_value w f) (λ f. pos 0 <ℤ fold_value w f) (λ f l. positive (fold_value w f) l) rs k.1),
-    (rs, rows.folds, unwidened (length g.points) (map (fold_row (length g.points)) rs) width w h),
-  )
-    where
-      positive : (z : ℤ) → pos 1 ≤ℤ z → pos 0 <ℤ z
-      positive z l = omega (arith, ints, l)
-
-  -- the same of heights without a width
   pub open_class : AllItemsExist g key → last_number key < item_limit g → (at_most : length key ≤ length g.faces) → length key ≡ length g.faces → (w : List ℤ)
       → IsFeasible (length g.points) (map (fold_row (length g.points)) rs) None w → IsClass g key w
   open_class items near at_most faces_are w h =
@@ -81,24 +68,26 @@ module _ (g : Shape) (s : IsShape g) (key : List ℕ) (rs : List Fold) (faces : 
       positive : (z : ℤ) → pos 1 ≤ℤ z → pos 0 <ℤ z
       positive z l = omega (arith, ints, l)
 
-  pub open_not_refuted : (width : ℕ) (w : List ℤ) → IsFeasible (length g.points) (map (fold_row (length g.points)) rs) None w → IsRefutedAt g width key → ⊥
-  open_not_refuted width w h (qs, ms, folds, k) =
+  -- the same at a width
+  pub class_of : AllItemsExist g key → last_number key < item_limit g → length key ≡ length g.faces → (width : ℕ) (w : List ℤ) → IsFeasible (length g.points) (map (fold_row (length g.points)) rs) (Some width) w → IsClass g key w
+  class_of items near faces_are width w h = open_class items near (omega (arith, faces_are)) faces_are w (unwidened (length g.points) (map (fold_row (length g.points)) rs) width w h)
+
+  -- a refuted key has multipliers on these folds
+  pub refuted_on : (width : ℕ) → IsRefutedAt g width key → (ms : List (ℕ × ℤ)) × IsInfeasible (length g.points) (map (fold_row (length g.points)) rs) (Some width) ms
+  refuted_on width (qs, ms, folds, k) =
       let e = head_folds_fixed g 0 key qs rs folds rows.folds in
       let P : List Fold → Type 0 = λ ts. IsInfeasible (length g.points) (map (fold_row (length g.points)) ts) (Some width) ms in
-      one_answer (length g.points) (map (fold_row (length g.points)) rs) None (Some width) w ms h (subst P e k)
+      (ms, subst P e k)
 
   -- where it finds heights, or is wide, it is not infeasible
+  pub open_not_refuted : (width : ℕ) (w : List ℤ) → IsFeasible (length g.points) (map (fold_row (length g.points)) rs) None w → IsRefutedAt g width key → ⊥
+  open_not_refuted width w h r = let i = refuted_on width r in one_answer (length g.points) (map (fold_row (length g.points)) rs) None (Some width) w i.0 h i.1
+
   pub not_refuted : (width : ℕ) (w : List ℤ) → IsFeasible (length g.points) (map (fold_row (length g.points)) rs) (Some width) w → IsRefutedAt g width key → ⊥
-  not_refuted width w h (qs, ms, folds, k) =
-      let e = head_folds_fixed g 0 key qs rs folds rows.folds in
-      let P : List Fold → Type 0 = λ ts. IsInfeasible (length g.points) (map (fold_row (length g.points)) ts) (Some width) ms in
-      one_answer (length g.points) (map (fold_row (length g.points)) rs) (Some width) (Some width) w ms h (subst P e k)
+  not_refuted width w h = open_not_refuted width w (unwidened (length g.points) (map (fold_row (length g.points)) rs) width w h)
 
   pub not_refuted_wide : (width step : ℕ) (number : ℤ) → IsWide (length g.points) (map (fold_row (length g.points)) rs) width step number → IsRefutedAt g width key → ⊥
-  not_refuted_wide width step number h (qs, ms, folds, k) =
-      let e = head_folds_fixed g 0 key qs rs folds rows.folds in
-      let P : List Fold → Type 0 = λ ts. IsInfeasible (length g.points) (map (fold_row (length g.points)) ts) (Some width) ms in
-      infeasible_not_wide (length g.points) (map (fold_row (length g.points)) rs) width ms step number (subst P e k) h
+  not_refuted_wide width step number h r = let i = refuted_on width r in infeasible_not_wide (length g.points) (map (fold_row (length g.points)) rs) width i.0 step number i.1 h
 
 -- ---- an answer, over the points and the folds that it is of
 

@@ -35,9 +35,6 @@ gone_multipliers s n fs ms p e f h same =
     let R : List (ℕ × ℤ) → Type 0 = λ xs. AreMultipliers n (map (fold_row n) fs) xs in
     subst R (sym (same g.stem g.is)) (subst Q (g.columns ∙ e) g.extended)
 
-pub gone_some : (s : StemsValue) (fs : List Fold) (p : Pushed) → p ≡ Infeasible → HasFollowed s fs p → (v : StemValue) × (s.last ≡ Some v)
-gone_some s fs p e h = let P : Pushed → Type 0 = λ q. HasFollowed s fs q in let g = subst P e h in (g.stem, g.is)
-
 -- ---- one more row
 pub gone_one : (fs : List Fold) (k : ℕ) (f : Fold) (old new : StemValue) (p : Pushed) → k < length fs → f ≡ get_or fs k no_fold → old.columns ≡ new.columns → old.folds ≡ Some (take k fs) → HasPushed old new f p → HasExtended new fs (k + 1) p
 gone_one fs k f old new Feasible l e c o h = h (take k fs) o ∙ ap Some ((λ t. take k fs ++ e t ∷ []) ∙ sym (take_more fs k no_fold l))

@@ -1,53 +1,43 @@
 -- Runs of the stated solver from one start agree.
-use Rattle.std.proofs.Common.{◌≡◌, ◌≢◌, ℕ, inl, inr, refl, sym, ap, ◌∙◌, subst, arith, ℤ, List, [], ◌∷◌, length, get_or, Some, None, Option}
+use Rattle.std.proofs.Common.{◌≡◌, ◌≢◌, ℕ, refl, sym, ap, ◌∙◌, subst, arith, ℤ, List, [], ◌∷◌, length, get_or, Some, None, Option}
 use Rattle.std.specs.Prelude.{slice_get}
 use Rattle.std.proofs.lemmas.List.{get_or_default, same_lists}
-use Rattle.ntfe_model.specs.Solver.{Line, Table, solved_for, with_put_in, IsReduced, IsNextLine, IsPivot, move_of, start_table, multipliers_of, IsStepOf, IsRun, IsFeasible, IsInfeasible}
+use Rattle.ntfe_model.specs.Solver.{Line, Table, solved_for, with_put_in, IsReduced, IsPivot, move_of, start_table, multipliers_of, IsStepOf, IsRun, IsFeasible, IsInfeasible}
 use Rattle.ntfe_model.specs.Solver.Move.{pivot, feasible, infeasible}
 use Rattle.strict_solver.proofs.Moves.{moves_same}
 use Rattle.strict_solver.proofs.One.{reduced_same}
-use Rattle.strict_solver.proofs.Entries.{line_or}
+use Rattle.strict_solver.proofs.Entries.{line_or, at_places, both_some}
+use Rattle.strict_solver.proofs.Pivots.{pivot-leaving, pivot-left, pivot-new, pivot-free, pivot-put}
 
 abbrev line_in : Line → Option (Option Line) → Line
 line_in r None = r
 line_in r (Some o) = line_or r o
 
-next_same : (x y : ℕ) (m n : Line) (z : ℕ) (o a b : Option Line) → x ≢ y → m ≡ n → IsNextLine x y m z o a → IsNextLine x y n z o b → a ≡ b
-next_same x y m n z o a b ne e (inl h) (inl g) = h.1 ∙ sym g.1
-next_same x y m n z o a b ne e (inl h) (inr (inl g)) = absurd (ne (sym h.0 ∙ g.0))
-next_same x y m n z o a b ne e (inl h) (inr (inr (inl g))) = absurd (g.0 h.0)
-next_same x y m n z o a b ne e (inl h) (inr (inr (inr g))) = absurd (g.2 h.0)
-next_same x y m n z o a b ne e (inr (inl h)) (inl g) = absurd (ne (sym g.0 ∙ h.0))
-next_same x y m n z o a b ne e (inr (inl h)) (inr (inl g)) = h.1 ∙ ap Some e ∙ sym g.1
-next_same x y m n z o a b ne e (inr (inl h)) (inr (inr (inl g))) = absurd (g.1 h.0)
-next_same x y m n z o a b ne e (inr (inl h)) (inr (inr (inr g))) = absurd (g.3 h.0)
-next_same x y m n z o a b ne e (inr (inr (inl h))) (inl g) = absurd (h.0 g.0)
-next_same x y m n z o a b ne e (inr (inr (inl h))) (inr (inl g)) = absurd (h.1 g.0)
-next_same x y m n z o a b ne e (inr (inr (inl h))) (inr (inr (inl g))) = h.3 ∙ sym g.3
-next_same x y m n z o a b ne e (inr (inr (inl h))) (inr (inr (inr g))) = let p = h.2 in let q = g.4 in cc
-next_same x y m n z o a b ne e (inr (inr (inr h))) (inl g) = absurd (h.2 g.0)
-next_same x y m n z o a b ne e (inr (inr (inr h))) (inr (inl g)) = absurd (h.3 g.0)
-next_same x y m n z o a b ne e (inr (inr (inr h))) (inr (inr (inl g))) = let p = h.4 in let q = g.2 in cc
-next_same x y m n z o a b ne e (inr (inr (inr h))) (inr (inr (inr g))) =
-    let k : g.0 ≡ h.0 = ap (line_or g.0) (sym g.4 ∙ h.4) in
-    let P : Line → Type 0 = λ q. IsReduced (with_put_in q y m) g.1 in
-    let Q : Line → Type 0 = λ l. IsReduced (with_put_in g.0 y l) g.1 in
-    h.5 ∙ ap Some (reduced_same (with_put_in h.0 y m) h.1 g.1 h.6 (subst P k (subst Q (sym e) g.6))) ∙ sym g.5
-
 pub pivot_same : (x y : ℕ) (s t u : List (Option Line)) → IsPivot x y s t → IsPivot x y s u → t ≡ u
 pivot_same x y s t u p q =
-    let rows : q.row ≡ p.row = ap (line_in q.row) (sym q.is ∙ p.is) in
-    let P : Line → Type 0 = λ r. IsReduced (solved_for r x y) q.new in
-    let news : p.new ≡ q.new = reduced_same (solved_for p.row x y) p.new q.new p.solved (subst P rows q.solved) in
-    same_lists t u (p.length_same ∙ sym q.length_same) (λ k d l.
-    (let a = p.length_same in
-    let b = q.length_same in
-    get_or_default t k d None l
-    ∙ next_same x y p.new q.new k (get_or s k None) (get_or t k None) (get_or u k None) apart news (p.lines k (omega arith)) (q.lines k (omega arith))
-    ∙ get_or_default u k None d (omega arith)))
+    same_lists t u (p.length_same ∙ sym q.length_same)
+    (λ k d l. get_or_default t k d None l ∙ at_places x y s (λ k. get_or t k None ≡ get_or u k None) left new free put k ∙ get_or_default u k None d (let a = p.length_same in let b = q.length_same in omega arith))
   where
-    apart : x ≢ y
-    apart e = let Q : ℕ → Type 0 = λ k. slice_get s k ≡ Some (Some p.row) in let a = subst Q e p.is in let b = p.other in cc
+    news : p.new ≡ q.new
+    news =
+        let P : Line → Type 0 = λ r. IsReduced (solved_for r x y) q.new in
+        reduced_same (solved_for p.row x y) p.new q.new p.solved (subst P (both_some _ q.row p.row (pivot-leaving x y s u q).0 (pivot-leaving x y s t p).0) q.solved)
+
+    left : get_or t x None ≡ get_or u x None
+    left = pivot-left x y s t p ∙ sym (pivot-left x y s u q)
+
+    new : get_or t y None ≡ get_or u y None
+    new = pivot-new x y s t p ∙ ap Some news ∙ sym (pivot-new x y s u q)
+
+    free : (k : ℕ) → k ≢ y → get_or s k None ≡ None → get_or t k None ≡ get_or u k None
+    free k n e = pivot-free x y s t p k e n ∙ sym (pivot-free x y s u q k e n)
+
+    put : (k : ℕ) (o : Line) → k ≢ x → get_or s k None ≡ Some o → get_or t k None ≡ get_or u k None
+    put k o n e =
+        let h = pivot-put x y s t p k o e n in
+        let g = pivot-put x y s u q k o e n in
+        let P : Line → Type 0 = λ m. IsReduced (with_put_in o y m) g.0 in
+        h.1 ∙ ap Some (reduced_same (with_put_in o y p.new) h.0 g.0 h.2 (subst P (sym news) g.2)) ∙ sym g.1
 
 pub step_same : (columns : ℕ) (s t u : Table) → IsStepOf columns s t → IsStepOf columns s u → t ≡ u
 step_same columns s t u m n =

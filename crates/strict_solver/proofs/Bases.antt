@@ -4,7 +4,7 @@ use Rattle.std.proofs.Common.{◌≡◌, ◌≢◌, ℕ, zero, suc, ◌+◌, ◌
 use Rattle.std.proofs.lemmas.Nat.{pow_pos}
 use Rattle.ntfe_model.specs.Solver.{Line}
 use Rattle.strict_solver.proofs.Pivots.{IsTable, pivot-kept, pivot-basic}
-use Rattle.strict_solver.proofs.Bland.{IsMoving, IsLoaded, IsBasic, row-of, no_return, moving-length}
+use Rattle.strict_solver.proofs.Bland.{IsMoving, IsLoaded, IsBasic, row-of, no_return, moving-length, moving-keeps}
 
 abbrev Lines : Type 0
 Lines = List (Option Line)
@@ -57,10 +57,7 @@ slack_code-same (suc n) (o ∷ s) (p ∷ t) l e (suc z) c b = slack_code-same n 
 -- the basic heights stay the same
 module _ (columns bound k : ℕ) (h : k < columns) where
   height-stays : (s : Lines) (ts : List (List (Option Line))) (t : Lines) → IsMoving columns bound s ts t → IsBasic s k → IsBasic t k
-  height-stays s [] t m b = let P : Lines → Type 0 = λ r. IsBasic r k in subst P m b
-  height-stays s (r ∷ ts) t m b =
-      let c = row-of columns m.0.x m.0.y s m.0.move in
-      height-stays r ts t m.1 (pivot-kept m.0.x m.0.y s r m.0.is k b.0 b.1 (λ e. (let a = c.0 in omega arith)))
+  height-stays = moving-keeps columns bound (λ r. IsBasic r k) (λ a c m b. pivot-kept m.x m.y a c m.is k b.0 b.1 (λ e. let l = (row-of columns m.x m.y a m.move).0 in omega arith))
 
   height-was : (s : Lines) (ts : List (List (Option Line))) (t : Lines) → IsMoving columns bound s ts t → IsBasic t k → IsBasic s k
   height-was s [] t m b = let P : Lines → Type 0 = λ r. IsBasic r k in subst P (sym m) b

@@ -2,13 +2,13 @@
 --     IsMoving columns bound s ts t      pivots of the moving lead from s over ts to t, and no variable above the bound leaves
 --     IsLoaded columns s                 no slack's row has a height that is not basic
 --     no_return                          after one move or more another set of variables is basic than at first
-use Rattle.std.proofs.Common.{◌≡◌, ℕ, ◌<◌, ◌≤◌, ◌⊎◌, inl, inr, refl, sym, ap, ◌∙◌, subst, arith, ℤ, List, [], ◌∷◌, length, get_or, Some, None, Option}
+use Rattle.std.proofs.Common.{◌≡◌, ℕ, ◌<◌, ◌≤◌, ◌⊎◌, inl, inr, refl, sym, ◌∙◌, subst, arith, ℤ, List, [], ◌∷◌, length, get_or, Some, None, Option}
 use Rattle.ntfe_model.specs.Solver.{Line, IsPivot}
 use Rattle.strict_solver.specs.Equations.{Holds}
-use Rattle.strict_solver.proofs.Pivots.{IsTable, pivot-table, pivot-holds, pivot-held, pivot-gone, pivot-kept, pivot-basic, pivot-left, pivot-leaving, pivot-entering}
+use Rattle.strict_solver.proofs.Pivots.{IsTable, pivot-table, pivot-holds, pivot-held, pivot-gone, pivot-kept, pivot-before, pivot-basic, pivot-left, pivot-leaving, pivot-entering}
 use Rattle.strict_solver.proofs.Moves.{IsMove, first_slack-found, entering-found, IsGone}
 use Rattle.strict_solver.proofs.Values.{bland}
-use Rattle.strict_solver.proofs.Entries.{basic_or_not, not_both}
+use Rattle.strict_solver.proofs.Entries.{basic_or_not, not_both, none_unless}
 
 abbrev Lines : Type 0
 Lines = List (Option Line)
@@ -41,19 +41,18 @@ step-table columns bound s t m w = pivot-table m.x m.y s t m.is w
 pub step-loaded : (columns bound : ℕ) (s t : Lines) → IsMovingStep columns bound s t → IsTable s → columns ≤ length s → IsLoaded columns s → IsLoaded columns t
 step-loaded columns bound s t m w c l k h e =
     let r = row-of columns m.x m.y s m.move in
-    pivot-gone m.x m.y s t m.is w columns k h r.0 (λ i. let a = r.1 in omega arith) (omega arith) (l k h (by (basic_or_not (get_or s k None))))
-  where
-    by : ((q : Line) × (get_or s k None ≡ Some q)) ⊎ (get_or s k None ≡ None) → get_or s k None ≡ None
-    by (inl g) = let n = pivot-kept m.x m.y s t m.is k g.0 g.1 (λ i. let r = row-of columns m.x m.y s m.move in let a = r.0 in omega arith) in absurd (not_both _ n.0 n.1 e)
-    by (inr g) = g
+    pivot-gone m.x m.y s t m.is w columns k h r.0 (λ i. let a = r.1 in omega arith) (omega arith) (l k h (pivot-before m.x m.y s t m.is k e (λ i. let a = r.0 in omega arith)))
+
+-- what each move keeps is kept by all
+pub moving-keeps : (columns bound : ℕ) (P : Lines → Type 0) → ((s t : Lines) → IsMovingStep columns bound s t → P s → P t) → (s : Lines) (ts : List (List (Option Line))) (t : Lines) → IsMoving columns bound s ts t → P s → P t
+moving-keeps columns bound P f s [] t m p = subst P m p
+moving-keeps columns bound P f s (r ∷ ts) t m p = moving-keeps columns bound P f r ts t m.1 (f s r m.0 p)
 
 pub moving-table : (columns bound : ℕ) (s : Lines) (ts : List (List (Option Line))) (t : Lines) → IsMoving columns bound s ts t → IsTable s → IsTable t
-moving-table columns bound s [] t m w = let P : Lines → Type 0 = λ r. IsTable r in subst P m w
-moving-table columns bound s (r ∷ ts) t m w = moving-table columns bound r ts t m.1 (step-table columns bound s r m.0 w)
+moving-table columns bound = moving-keeps columns bound IsTable (step-table columns bound)
 
 pub moving-length : (columns bound : ℕ) (s : Lines) (ts : List (List (Option Line))) (t : Lines) → IsMoving columns bound s ts t → length t ≡ length s
-moving-length columns bound s [] t m = ap (λ (r : Lines). length r) (sym m)
-moving-length columns bound s (r ∷ ts) t m = moving-length columns bound r ts t m.1 ∙ m.0.is.length_same
+moving-length columns bound s ts t m = moving-keeps columns bound (λ r. length r ≡ length s) (λ a b k e. k.is.length_same ∙ e) s ts t m refl
 
 pub moving-loaded : (columns bound : ℕ) (s : Lines) (ts : List (List (Option Line))) (t : Lines) → IsMoving columns bound s ts t → IsTable s → columns ≤ length s → IsLoaded columns s → IsLoaded columns t
 moving-loaded columns bound s [] t m w c l = let P : Lines → Type 0 = λ r. IsLoaded columns r in subst P m l
@@ -71,19 +70,11 @@ moving-holds columns bound s (r ∷ ts) t m w one vs l =
     ((λ h. rest.0 (pivot-holds k.x k.y s r k.is w one vs l h)), (λ h. pivot-held k.x k.y s r k.is w one vs l (rest.1 h)))
 
 -- a basic variable above the bound stays
-step-stays : (columns bound : ℕ) (s t : Lines) → IsMovingStep columns bound s t → (j : ℕ) → bound < j → IsBasic s j → IsBasic t j
-step-stays columns bound s t m j h b = pivot-kept m.x m.y s t m.is j b.0 b.1 (λ e. let a = m.small in omega arith)
-
 moving-stays : (columns bound : ℕ) (s : Lines) (ts : List (List (Option Line))) (t : Lines) → IsMoving columns bound s ts t → (j : ℕ) → bound < j → IsBasic s j → IsBasic t j
-moving-stays columns bound s [] t m j h b = let P : Lines → Type 0 = λ r. IsBasic r j in subst P m b
-moving-stays columns bound s (r ∷ ts) t m j h b = moving-stays columns bound r ts t m.1 j h (step-stays columns bound s r m.0 j h b)
+moving-stays columns bound s ts t m j h = moving-keeps columns bound (λ r. IsBasic r j) (λ a c k b. pivot-kept k.x k.y a c k.is j b.0 b.1 (λ e. let l = k.small in omega arith)) s ts t m
 
 moving-empty : (columns bound : ℕ) (s : Lines) (ts : List (List (Option Line))) (t : Lines) → IsMoving columns bound s ts t → (j : ℕ) → bound < j → get_or t j None ≡ None → get_or s j None ≡ None
-moving-empty columns bound s ts t m j h e = by (basic_or_not (get_or s j None))
-  where
-    by : ((q : Line) × (get_or s j None ≡ Some q)) ⊎ (get_or s j None ≡ None) → get_or s j None ≡ None
-    by (inl g) = let n = moving-stays columns bound s ts t m j h g in absurd (not_both _ n.0 n.1 e)
-    by (inr g) = g
+moving-empty columns bound s ts t m j h e = none_unless _ (λ q g. let n = moving-stays columns bound s ts t m j h (q, g) in not_both _ n.0 n.1 e)
 
 weaker : (columns k n : ℕ) (s : Lines) (ts : List (List (Option Line))) (t : Lines) → k ≤ n → IsMoving columns k s ts t → IsMoving columns n s ts t
 weaker columns k n s [] t h m = m
@@ -183,11 +174,7 @@ module _ (columns : ℕ) (s t : List (Option Line)) (w : IsTable s) (c : columns
   wn = step-table columns g.q g.a g.next g.step wa
 
   same_empty : (j : ℕ) → get_or s j None ≡ None → get_or t j None ≡ None
-  same_empty j e = by (basic_or_not (get_or t j None))
-    where
-      by : ((r : Line) × (get_or t j None ≡ Some r)) ⊎ (get_or t j None ≡ None) → get_or t j None ≡ None
-      by (inl h) = let n = from j h in absurd (not_both _ n.0 n.1 e)
-      by (inr h) = h
+  same_empty j e = none_unless _ (λ r h. let n = from j (r, h) in not_both _ n.0 n.1 e)
 
   leaving : IsMove columns g.a g.q g.step.y
   leaving = let P : ℕ → Type 0 = λ x. IsMove columns g.a x g.step.y in subst P g.leaves g.step.move

@@ -6,14 +6,14 @@ use Rattle.std.specs.Prelude.{find, nat_le, int_lt, is_none}
 use Rattle.std.specs.Option.{option_map_or, option_and_then}
 use Rattle.std.specs.Ordering.{int_eq}
 use Rattle.std.specs.List.{range_with_len}
-use Rattle.std.proofs.lemmas.Bool.Decides.{nat_tests}
+use Rattle.ntfe_nums.proofs.Comparisons.{not_le}
 use Rattle.std.proofs.lemmas.List.{get_or_past}
 use Rattle.ntfe_model.specs.Solver.{Line, coefficient_at, first_slack, next_load, first_negative, first_entering, moving}
 use Rattle.ntfe_model.specs.Solver.Move.{pivot, feasible, infeasible}
 use Rattle.strict_solver.specs.Continuing.{wider, wider_line}
-use Rattle.strict_solver.proofs.Moves.{IsGone, first_slack-found, no_first_slack, int_eq-zero, int_eq-some}
+use Rattle.strict_solver.proofs.Moves.{IsGone, first_slack-found, no_first_slack, int_eq-zero, int_eq-some, no_test, no_third}
 use Rattle.strict_solver.proofs.Pivots.{IsTable}
-use Rattle.strict_solver.proofs.Wider.{zero_after}
+use Rattle.strict_solver.proofs.Wider.{zero_after, wider_none}
 use Rattle.strict_solver.proofs.Following.{Follows}
 use Rattle.strict_solver.proofs.Entries.{basic_or_not, not_both, both_some, none_of}
 
@@ -44,19 +44,6 @@ find-last f g a (suc n) h e = by (f a) refl e (find-last f g (a + 1) n (λ j c l
     by false t e rest =
         ap (λ b. cond b (Some a) (find g (range_with_len (a + 1) (suc n)))) (here ∙ t) ∙ rest e
         ∙ ap (λ k. cond (g k) (Some k) None) (let i : a + 1 + n ≡ a + suc n = omega arith in i)
-
-and_false : (a : Bool) → (a && false) ≡ false
-and_false true = refl
-and_false false = refl
-
-and3_false : (a b : Bool) → (a && b && false) ≡ false
-and3_false true true = refl
-and3_false true false = refl
-and3_false false true = refl
-and3_false false false = refl
-
-not_le : (m n : ℕ) → n < m → nat_le m n ≡ false
-not_le m n h = grind (arith, nat_tests)
 
 module _ (columns : ℕ) (s u : List (Option Line)) (e : ℕ) (w : IsTable s) (cs : columns ≤ length s) (f : Follows columns s u e) where
   pub last_or : (e ≢ length s) → get_or u (length s) None ≡ None
@@ -98,7 +85,7 @@ module _ (columns : ℕ) (s u : List (Option Line)) (e : ℕ) (w : IsTable s) (c
             ∙ ap (λ n. cond (nat_le columns n && option_map_or test (get_or u n None) false) (Some n) None) (let a : 0 + length s ≡ length s = omega arith in a)
 
         by : ((r : Line) × (get_or u (length s) None ≡ Some r)) ⊎ (get_or u (length s) None ≡ None) → (first_slack columns test u ≡ None) ⊎ ((e ≡ length s) × (first_slack columns test u ≡ Some (length s)))
-        by (inr g) = inl (found ∙ ap (λ o. cond (nat_le columns (length s) && option_map_or test o false) (Some (length s)) None) g ∙ ap (λ b. cond b (Some (length s)) None) (and_false (nat_le columns (length s))))
+        by (inr g) = inl (found ∙ ap (λ o. cond (nat_le columns (length s) && option_map_or test o false) (Some (length s)) None) g ∙ ap (λ b. cond b (Some (length s)) None) (no_test (nat_le columns (length s))))
         by (inl g) = on (nat_le columns (length s) && option_map_or test (get_or u (length s) None) false) refl
           where
             on : (b : Bool) → (nat_le columns (length s) && option_map_or test (get_or u (length s) None) false) ≡ b → (first_slack columns test u ≡ None) ⊎ ((e ≡ length s) × (first_slack columns test u ≡ Some (length s)))
@@ -153,12 +140,8 @@ module _ (columns : ℕ) (s u : List (Option Line)) (e : ℕ) (w : IsTable s) (c
     can_same : (j : ℕ) → j < length s → (nat_le columns j && is_none (get_or u j None) && int_lt (pos 0) (coefficient_at (wider row) j)) ≡ (nat_le columns j && is_none (get_or s j None) && int_lt (pos 0) (coefficient_at row j))
     can_same j l = by (let c : (columns ≤ j) ⊎ (j < columns) = grind arith in c)
       where
-        on : (o : Option Line) → is_none (wider_line o) ≡ is_none o
-        on None = refl
-        on (Some r) = refl
-
         by : (columns ≤ j) ⊎ (j < columns) → (nat_le columns j && is_none (get_or u j None) && int_lt (pos 0) (coefficient_at (wider row) j)) ≡ (nat_le columns j && is_none (get_or s j None) && int_lt (pos 0) (coefficient_at row j))
-        by (inl c) = λ i. nat_le columns j && (ap is_none (f.slacks j c l) ∙ on (get_or s j None)) i && int_lt (pos 0) (zero_after row.coefficients j i)
+        by (inl c) = λ i. nat_le columns j && (ap is_none (f.slacks j c l) ∙ wider_none (get_or s j None)) i && int_lt (pos 0) (zero_after row.coefficients j i)
         by (inr c) =
             let i = not_le columns j c in
             ap (λ b. b && is_none (get_or u j None) && int_lt (pos 0) (coefficient_at (wider row) j)) i
@@ -182,7 +165,7 @@ module _ (columns : ℕ) (s u : List (Option Line)) (e : ℕ) (w : IsTable s) (c
             ∙ sym g
         by None g =
             find-last (λ y. nat_le columns y && is_none (get_or s y None) && int_lt (pos 0) (coefficient_at row y)) (λ y. nat_le columns y && is_none (get_or u y None) && int_lt (pos 0) (coefficient_at (wider row) y)) 0 (length s) (λ j c l. can_same j (omega arith)) g
-            ∙ ap (λ b. cond b (Some (0 + length s)) None) (ap (λ z. nat_le columns (0 + length s) && is_none (get_or u (0 + length s) None) && int_lt (pos 0) z) zero_last ∙ and3_false (nat_le columns (0 + length s)) (is_none (get_or u (0 + length s) None)))
+            ∙ ap (λ b. cond b (Some (0 + length s)) None) (ap (λ z. nat_le columns (0 + length s) && is_none (get_or u (0 + length s) None) && int_lt (pos 0) z) zero_last ∙ no_third (nat_le columns (0 + length s)) (is_none (get_or u (0 + length s) None)))
             ∙ sym g
 
   pub moving_follows : (moving columns u ≡ moving columns s) ⊎ ((e ≡ length s) × (moving columns s ≡ feasible))

@@ -5,7 +5,7 @@ use Rattle.std.proofs.lemmas.Int.{ints, unsigned_abs-mul}
 use Rattle.std.proofs.lemmas.Nat.Gcd.{le_of_dvd}
 use Rattle.std.proofs.Math.Nat.{pos_of_dvd_of_pos, mul-dvd-mul_left, dvd_of_mul-dvd-mul_left, eq-one_of_dvd-one, one-le-mul}
 use Rattle.std.proofs.lemmas.List.{set-get_or}
-use Rattle.ntfe_nums.proofs.Ring.{ring, product_zero, one_product}
+use Rattle.ntfe_nums.proofs.Ring.{ring, product_zero, one_product, sum_zero}
 use Rattle.ntfe_nums.proofs.Ring.Expression.{var, num, plus, times}
 use Rattle.strict_solver.specs.Rows.{number, IsCommonDivisor, IsCombination, IsLowered}
 
@@ -26,11 +26,8 @@ first_product row p piv den factor raw l h i z s =
     let first : number (set row p (pos 0)) 0 ≡ number row 0 = get_or-set_other row p 0 (pos 0) (pos 0) (λ e. omega arith) in
     let value : number raw 0 ≡ number row 0 *ℤ den +ℤ pos 0 =
     s ∙ (λ t. first t *ℤ den +ℤ factor *ℤ z t) ∙ ap (λ y. number row 0 *ℤ den +ℤ y) (product_zero factor) in
-    let same : number raw 0 ≡ number row 0 *ℤ den = value ∙ plain (number row 0 *ℤ den) in
+    let same : number raw 0 ≡ number row 0 *ℤ den = value ∙ sum_zero (number row 0 *ℤ den) in
     subst (λ y. 0 < unsigned_abs y) (sym same) (positive_product (number row 0) den h i)
-  where
-    plain : (z : ℤ) → z +ℤ pos 0 ≡ z
-    plain z = omega (arith, ints)
 
 pub first_some : (row : List ℤ) (p : ℕ) (piv : List ℤ) (den : ℤ) (raw : List ℤ) → 2 ≤ p → pos 0 <ℤ number row 0 → pos 0 <ℤ den → number piv 0 ≡ pos 0 → AreSums row p piv den raw → 0 < unsigned_abs (number raw 0)
 first_some row p piv den raw l h i z s = first_product row p piv den (number row p) raw l h i z (s 0)

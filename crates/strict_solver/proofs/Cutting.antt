@@ -2,7 +2,6 @@
 --     settled_here       a basis that stands at the end of the run on some rows, with all its places
 --     settled_more       one more row changed no number
 --     settled_cut        the rows behind are taken back
---     settled_copied     a copy
 --     stays_sized        one more row that changed no number leaves the sizes
 use Rattle.std.proofs.Common.{◌≡◌, ℕ, ◌+◌, ◌*◌, ◌^◌, ◌<◌, ◌≤◌, ◌⊎◌, inl, inr, ℤ, pos, ◌<ℤ◌, unsigned_abs, refl, sym, ap, ◌∙◌, subst, arith, List, [], ◌∷◌, ◌++◌, map, take, length}
 use Rattle.std.proofs.lemmas.List.{take_all, take-take, take-append-le, length-take-le, length-map, length-append}
@@ -12,7 +11,7 @@ use Rattle.strict_solver.specs.declared.place.Place.TheVariants.{Row}
 use Rattle.strict_solver.specs.declared.basis.Basis.{Basis}
 use Rattle.strict_solver.specs.Mixing.{AreNarrowRows}
 use Rattle.strict_solver.specs.Standing.{IsSized, HasOneMore}
-use Rattle.strict_solver.specs.Stems.{HasMemory, IsKnownStem, IsCopy, IsCut, IsSettled}
+use Rattle.strict_solver.specs.Stems.{HasMemory, IsKnownStem, IsCut, IsSettled}
 use Rattle.strict_solver.proofs.Outcome.{are_rows}
 use Rattle.strict_solver.proofs.SlackLines.{reached-length}
 use Rattle.strict_solver.proofs.Stems.{copied, memory_of}
@@ -67,14 +66,6 @@ settled_cut b c fs s n h l m o = record { within = (let a = length-take-le n fs 
           cells = i.cells ∙ o.cells;
           places = i.places ∙ (λ t. take (o.columns t + j) (o.places t)) ∙ take-take (b.columns + j) (b.columns + n) b.places.items (omega arith);
         }))
-
-pub settled_copied : (b c : Basis) (fs : List Fold) (s : ℕ) → IsCopy b c → IsSettled b fs s → IsSettled c fs s
-settled_copied b c fs s o h = record { within = h.within; each = each }
-  where
-    each : (n : ℕ) → s ≤ n → n ≤ length fs → (e : Basis) → HasMemory e → IsCut c e n → IsKnownStem e (take n fs)
-    each n l m e y i =
-        h.each n l m e y
-        (record { columns = i.columns ∙ o.columns; denominator = i.denominator ∙ o.denominator; cells = i.cells ∙ o.cells; places = i.places ∙ (λ t. take (o.columns t + n) (o.places t)) })
 
 pub stays_sized : (b c : Basis) → HasOneMore b c → IsSized b → IsSized c
 stays_sized b c o h = record {

@@ -17,10 +17,12 @@ use Rattle.strict_solver.proofs.Forms.{zero_factor}
 use Rattle.strict_solver.proofs.Pivots.{IsTable, run-holds, run-held}
 use Rattle.strict_solver.proofs.Bland.{IsLoaded}
 use Rattle.strict_solver.proofs.Runs.{AreRows, start_lines, start-get, start-at, start-length, start-is_table, start-loading, run-loading, end-loaded}
-use Rattle.strict_solver.proofs.Directions.{combination-one, combination-more, IsDirection, direction_values, direction}
+use Rattle.strict_solver.proofs.Directions.{combination-one, combination-more, IsDirection, direction_values, direction, direction-sum}
 use Rattle.strict_solver.proofs.GoingOn.{start-wider, rows_short, GoesOn, end-length, end-table, going_on-feasible}
 use Rattle.strict_solver.proofs.Entries.{basic_or_not, not_both}
 use Rattle.strict_solver.proofs.Feasible.{combination-zeros}
+use Rattle.ntfe_nums.proofs.Signs.{product_exchanged}
+use Rattle.strict_solver.proofs.Unique.{as_none, zero_left}
 
 -- ---- values of the start
 pub last-get : (vs : List ℤ) (t : ℤ) → get_or (vs ++ t ∷ []) (length vs) (pos 0) ≡ t
@@ -120,20 +122,12 @@ module _ (columns : ℕ) (rs : List (List ℤ)) (q : List ℤ) (w : AreRows colu
     unfolding t
     held = end-extends (pos 0) vs way.count way.holds
 
-    zero_left : (c a : ℤ) → c *ℤ pos 0 +ℤ a ≡ a
-    zero_left c a = ring (c ∷ a ∷ []) (plus (times (var 0) (num (pos 0))) (var 1)) (var 1) refl
-
     -- what the line says of the slack
     moved : l.d *ℤ t ≡ coefficient_at l j *ℤ way.size
     unfolding t
     moved =
         f.value (pos 0) vs way.count way.holds ∙ zero_left l.c (combination l.coefficients vs)
-        ∙ combination-one l.coefficients vs j (λ k n. each k n (basic_or_not (get_or end.lines k None)))
-        ∙ ap (λ v. coefficient_at l j *ℤ v) way.at
-      where
-        each : (k : ℕ) → k ≢ j → ((o : Line) × (get_or end.lines k None ≡ Some o)) ⊎ (get_or end.lines k None ≡ None) → (get_or l.coefficients k (pos 0) ≡ pos 0) ⊎ (get_or vs k (pos 0) ≡ pos 0)
-        each k n (inl h) = inl (f.zeros k h.0 h.1)
-        each k n (inr h) = inr (way.others k n h)
+        ∙ direction-sum end.lines j vs way l.coefficients f.zeros
 
     -- what the line of the variable beside those of the end says
     line_sum : g.follows.line.d *ℤ get_or (vs ++ t ∷ []) g.basic (pos 0) ≡ coefficient_at g.follows.line j *ℤ way.size +ℤ coefficient_at g.follows.line (length end.lines) *ℤ t
@@ -167,10 +161,7 @@ module _ (columns : ℕ) (rs : List (List ℤ)) (q : List ℤ) (w : AreRows colu
     still e = zero_factor l.d t d_some (moved ∙ ap (λ z. z *ℤ way.size) e ∙ zero_product way.size)
 
     stays : t ≡ pos 0 → coefficient_at l j ≡ pos 0
-    stays e = zero_factor way.size (coefficient_at l j) size_some (swap way.size (coefficient_at l j) ∙ sym moved ∙ ap (λ z. l.d *ℤ z) e ∙ product_zero l.d)
-      where
-        swap : (a b : ℤ) → a *ℤ b ≡ b *ℤ a
-        swap a b = ring (a ∷ b ∷ []) (times (var 0) (var 1)) (times (var 1) (var 0)) refl
+    stays e = zero_factor way.size (coefficient_at l j) size_some (product_exchanged way.size (coefficient_at l j) ∙ sym moved ∙ ap (λ z. l.d *ℤ z) e ∙ product_zero l.d)
 
     zeros_here : (b : ℕ) (o : Line) → get_or g.table.lines b None ≡ Some o → coefficient_at g.follows.line b ≡ pos 0
     zeros_here = (g.follows.table g.basic g.follows.line g.follows.extra).zeros
@@ -193,13 +184,8 @@ module _ (columns : ℕ) (rs : List (List ℤ)) (q : List ℤ) (w : AreRows colu
         loaded = end-loaded columns g.table
             (run-loading columns (start_table columns (rs ++ q ∷ [])) g.reaches.tables g.table g.reaches.run (start-is_table columns (rs ++ q ∷ []) w) (let a = start-length columns (length (rs ++ q ∷ [])) (rs ++ q ∷ []) in omega arith) (start-loading columns (rs ++ q ∷ []))) done
 
-        none : (o p : Option Line) → is_none o ≡ is_none p → p ≡ None → o ≡ None
-        none None p a b = refl
-        none (Some o) None a b = cc
-        none (Some o) (Some p) a b = cc
-
         gone : coefficient_at g.follows.line j ≡ pos 0
-        gone = loaded j lj (none _ _ (g.follows.basics j (λ i. (let a = within in omega arith))) nj) g.basic g.follows.line (let a = enough in omega arith) (let a = g.follows.longer in omega arith) g.follows.extra
+        gone = loaded j lj (as_none _ _ (g.follows.basics j (λ i. (let a = within in omega arith))) nj) g.basic g.follows.line (let a = enough in omega arith) (let a = g.follows.longer in omega arith) g.follows.extra
 
     -- where a height is, the line has it
     pub loaded-some : g.basic ≡ j → coefficient_at l j ≢ pos 0

@@ -7,6 +7,10 @@ use Rattle.strict_solver.specs.Scales.{gcd_of, reduced_denominator, common_multi
 use Rattle.strict_solver.proofs.Reduced.{gcd_by-is}
 use Rattle.strict_solver.proofs.One.{Lowest, lowest, cancels}
 
+some_factor : (g a : ℕ) → 0 < g * a → 0 < a
+some_factor g zero h = absurd (omega arith)
+some_factor g (suc a) h = omega arith
+
 pub gcd_of-is : (a b : ℕ) → IsGcd a b (gcd_of a b)
 unfolding gcd_of
 gcd_of-is a b = gcd_by-is b a b (omega arith)
@@ -60,26 +64,18 @@ module _ (k n : ℕ) (pk : 0 < k) (pn : 0 < n) where
 
       unit : (lx : Lowest k n) (t : ℕ) → gcd_of k n * (lx.a * t) ≡ lx.g * lx.a → t ≡ 1
       unit lx t f =
-          let pa : 0 < lx.a = some lx.g lx.a (let e = lx.first in omega arith) in
+          let pa : 0 < lx.a = some_factor lx.g lx.a (let e = lx.first in omega arith) in
           let e : gcd_of k n * t ≡ lx.g = cancels lx.a (gcd_of k n * t) lx.g pa (turn lx.a (gcd_of k n) t ∙ f ∙ mul_swap lx.g lx.a) in
           let below : lx.g ∣ gcd_of k n = (gcd_of-is k n).2 lx.g (subst (λ z. lx.g ∣ z) (sym lx.first) (dvd-mul_right lx.g lx.a)) (subst (λ z. lx.g ∣ z) (sym lx.second) (dvd-mul_right lx.g lx.b)) in
           eq-one_of_dvd-one (dvd_of_mul-dvd-mul_left t gcd_positive (subst (λ z. (gcd_of k n * t) ∣ z) (let h : gcd_of k n ≡ gcd_of k n * 1 = omega arith in h) (subst (λ z. z ∣ gcd_of k n) (sym e) below)))
         where
-          some : (g a : ℕ) → 0 < g * a → 0 < a
-          some g zero h = absurd (omega arith)
-          some g (suc a) h = omega arith
-
           turn : (a g t : ℕ) → a * (g * t) ≡ g * (a * t)
           turn a g t = omega arith
 
 -- ---- the reduced denominator
 module _ (d c : ℕ) (pd : 0 < d) where
   pub reduced_positive : 0 < reduced_denominator d c
-  reduced_positive = some (gcd_of d c) (d / gcd_of d c) (let e = quotient_of (gcd_of d c) d (gcd_of-is d c).0 in omega arith)
-    where
-      some : (g a : ℕ) → 0 < g * a → 0 < a
-      some g zero h = absurd (omega arith)
-      some g (suc a) h = omega arith
+  reduced_positive = some_factor (gcd_of d c) (d / gcd_of d c) (let e = quotient_of (gcd_of d c) d (gcd_of-is d c).0 in omega arith)
 
   -- the number makes c / d whole exactly where the reduced denominator divides it
   pub whole_when : (j : ℕ) → reduced_denominator d c ∣ j → d ∣ j * c

@@ -2,30 +2,23 @@
 -- without their constants. They tell a row's coefficient at that variable.
 use Rattle.std.proofs.Common.{◌≡◌, ◌≢◌, ℕ, zero, suc, ◌<◌, ◌⊎◌, inl, inr, refl, sym, ap, ◌∙◌, subst, arith, ℤ, pos, ◌+ℤ◌, ◌*ℤ◌, ◌<ℤ◌, List, [], ◌∷◌, ◌++◌, length, length-set, get_or, set, get_or-set_same, get_or-set_other, Some, None, Option}
 use Rattle.std.proofs.lemmas.Int.{ints}
-use Rattle.ntfe_nums.proofs.Ring.{ring, product_zero, zero_product}
+use Rattle.ntfe_nums.proofs.Ring.{ring, product_zero, zero_product, sum_zero}
 use Rattle.ntfe_nums.proofs.Ring.Expression.{var, num, plus, times}
 use Rattle.ntfe_model.specs.Solver.{Line, coefficient_at}
 use Rattle.strict_solver.specs.Equations.{combination, Holds}
 use Rattle.strict_solver.proofs.Pivots.{IsTable}
-use Rattle.strict_solver.proofs.Values.{common, values_by, common-positive, length-values, value-none, value-some, combination-none}
+use Rattle.strict_solver.proofs.Values.{common, values_by, common-positive, length-values, value-none, value-some, combination-none, zero_term}
 use Rattle.strict_solver.proofs.Entries.{basic_or_not, not_both, line_or}
 
 -- ---- sums
 pub combination-one : (es vs : List ℤ) (y : ℕ) → ((k : ℕ) → k ≢ y → (get_or es k (pos 0) ≡ pos 0) ⊎ (get_or vs k (pos 0) ≡ pos 0)) → combination es vs ≡ get_or es y (pos 0) *ℤ get_or vs y (pos 0)
 combination-one [] vs y h = sym (zero_product (get_or vs y (pos 0)))
 combination-one (e ∷ es) [] y h = sym (product_zero (get_or (e ∷ es) y (pos 0)))
-combination-one (e ∷ es) (v ∷ vs) zero h = ap (λ z. e *ℤ v +ℤ z) (combination-none es vs (λ k. h (suc k) (λ i. omega arith))) ∙ plain (e *ℤ v)
-  where
-    plain : (z : ℤ) → z +ℤ pos 0 ≡ z
-    plain z = omega (arith, ints)
-combination-one (e ∷ es) (v ∷ vs) (suc y) h = (λ i. term (h zero (λ j. omega arith)) i +ℤ combination-one es vs y (λ k n. h (suc k) (λ j. n (let a : k ≡ y = omega arith in a))) i) ∙ plain (get_or es y (pos 0) *ℤ get_or vs y (pos 0))
+combination-one (e ∷ es) (v ∷ vs) zero h = ap (λ z. e *ℤ v +ℤ z) (combination-none es vs (λ k. h (suc k) (λ i. omega arith))) ∙ sum_zero (e *ℤ v)
+combination-one (e ∷ es) (v ∷ vs) (suc y) h = (λ i. zero_term e v (h zero (λ j. omega arith)) i +ℤ combination-one es vs y (λ k n. h (suc k) (λ j. n (let a : k ≡ y = omega arith in a))) i) ∙ plain (get_or es y (pos 0) *ℤ get_or vs y (pos 0))
   where
     plain : (z : ℤ) → pos 0 +ℤ z ≡ z
     plain z = omega (arith, ints)
-
-    term : (e ≡ pos 0) ⊎ (v ≡ pos 0) → e *ℤ v ≡ pos 0
-    term (inl g) = ap (λ z. z *ℤ v) g ∙ zero_product v
-    term (inr g) = ap (λ z. e *ℤ z) g ∙ product_zero e
 
 nothing : (es : List ℤ) → combination es [] ≡ pos 0
 nothing [] = refl
@@ -132,3 +125,12 @@ module _ (s : List (Option Line)) (w : IsTable s) (y : ℕ) (l : y < length s) (
     others = direction-others;
     holds = direction-holds;
   }
+
+-- a line with 0 at the basic variables
+pub direction-sum : (s : List (Option Line)) (b : ℕ) (vs : List ℤ) (way : IsDirection s b vs) (es : List ℤ) → ((k : ℕ) (o : Line) → get_or s k None ≡ Some o → get_or es k (pos 0) ≡ pos 0)
+    → combination es vs ≡ get_or es b (pos 0) *ℤ way.size
+direction-sum s b vs way es h = combination-one es vs b (λ k n. at k n (basic_or_not (get_or s k None))) ∙ ap (λ v. get_or es b (pos 0) *ℤ v) way.at
+  where
+    at : (k : ℕ) → k ≢ b → ((o : Line) × (get_or s k None ≡ Some o)) ⊎ (get_or s k None ≡ None) → (get_or es k (pos 0) ≡ pos 0) ⊎ (get_or vs k (pos 0) ≡ pos 0)
+    at k n (inl o) = inl (h k o.0 o.1)
+    at k n (inr o) = inr (way.others k n o)

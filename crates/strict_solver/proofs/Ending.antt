@@ -1,43 +1,21 @@
 -- The run without a width comes to an end: each move that comes can be made, and no run is long.
 --     comes_to_end      the run ends with heights, or with multipliers
-use Rattle.std.proofs.Common.{◌≡◌, ℕ, zero, suc, ◌+◌, ◌^◌, ◌<◌, ◌≤◌, ◌⊎◌, inl, inr, not, refl, sym, ap, ◌∙◌, arith, ℤ, pos, List, [], ◌∷◌, ◌++◌, length, length-append, Some, None, Option}
-use Rattle.std.specs.Option.{option_map_or}
+use Rattle.std.proofs.Common.{◌≡◌, ℕ, zero, suc, ◌+◌, ◌^◌, ◌<◌, ◌≤◌, ◌⊎◌, inl, inr, not, refl, sym, arith, ℤ, pos, List, [], ◌∷◌, ◌++◌, length, length-append, Some, None}
 use Rattle.std.specs.Ordering.{int_eq}
 use Rattle.std.proofs.lemmas.List.{get_or_past}
-use Rattle.ntfe_model.specs.Solver.{Line, Table, Move, coefficient_at, start_table, first_slack, next_load, moving, move_of, multipliers_of, IsPivot, IsRun, IsFeasible, IsInfeasible}
+use Rattle.ntfe_model.specs.Solver.{Table, Move, coefficient_at, start_table, first_slack, next_load, moving, move_of, multipliers_of, IsPivot, IsRun, IsFeasible, IsInfeasible}
 use Rattle.ntfe_model.specs.Solver.Move.{pivot, feasible, infeasible}
 use Rattle.strict_solver.specs.Grids.{IsPivotable}
 use Rattle.strict_solver.specs.Lengths.{AreRowsOver}
 use Rattle.strict_solver.specs.Scales.{scale_to, scales_of, heights_by}
 use Rattle.strict_solver.proofs.GoingOn.{run-append}
 use Rattle.strict_solver.proofs.Lengths.{run_short}
-use Rattle.strict_solver.proofs.Moves.{first_slack-found, int_eq-some, move_of-pivot, move_of-infeasible, moving-pivot, moving-infeasible}
+use Rattle.strict_solver.proofs.Moves.{first_slack-found, int_eq-some, move_of-pivot, move_of-infeasible, moving-pivot, moving-infeasible, next_load-found}
 use Rattle.strict_solver.proofs.Pivots.{IsTable, get_there, run-table}
 use Rattle.strict_solver.proofs.Running.{load-pivotable}
 use Rattle.strict_solver.proofs.Runs.{start-is_table}
 use Rattle.strict_solver.proofs.Scaling.{scaling_is}
 use Rattle.strict_solver.proofs.Steps.{step_lines, step-is, move-pivotable}
-
-abbrev first_of : Option (ℕ × ℕ × List ℕ) → ℕ
-first_of None = 0
-first_of (Some m) = m.0
-
-abbrev second_of : Option (ℕ × ℕ × List ℕ) → ℕ
-second_of None = 0
-second_of (Some m) = m.1
-
--- the first slack that has the height leaves where the height is loaded
-load_first : (columns : ℕ) (s : List (Option Line)) (ks : List ℕ) (x y : ℕ) (l : List ℕ) → next_load columns s ks ≡ Some (x, y, l) → first_slack columns (λ r. not (int_eq (coefficient_at r y) (pos 0))) s ≡ Some x
-load_first columns s [] x y l e = cc
-load_first columns s (k ∷ ks) x y l e = by (first_slack columns (λ r. not (int_eq (coefficient_at r k) (pos 0))) s) refl e (load_first columns s ks x y l)
-  where
-    by : (o : Option ℕ) → first_slack columns (λ r. not (int_eq (coefficient_at r k) (pos 0))) s ≡ o → option_map_or (λ z. Some (z, k, ks)) o (next_load columns s ks) ≡ Some (x, y, l)
-        → (next_load columns s ks ≡ Some (x, y, l) → first_slack columns (λ r. not (int_eq (coefficient_at r y) (pos 0))) s ≡ Some x) → first_slack columns (λ r. not (int_eq (coefficient_at r y) (pos 0))) s ≡ Some x
-    by None f g rest = rest g
-    by (Some z) f g rest =
-        let u : z ≡ x = ap first_of g in
-        let v : k ≡ y = ap second_of g in
-        ap (λ i. first_slack columns (λ r. not (int_eq (coefficient_at r i) (pos 0))) s) (sym v) ∙ f ∙ ap Some u
 
 -- the move that comes can be made
 pivotable : (columns : ℕ) (t : Table) (x y : ℕ) (l : List ℕ) → IsTable t.lines → move_of columns t ≡ pivot x y l → IsPivotable x y t.lines
@@ -47,7 +25,7 @@ pivotable columns t x y l w e = by (move_of-pivot columns t x y l e)
     by (inl f) = load-pivotable columns x y t.lines w within (sym first)
       where
         first : first_slack columns (λ r. not (int_eq (coefficient_at r y) (pos 0))) t.lines ≡ Some x
-        first = load_first columns t.lines t.to_load x y l f
+        first = (next_load-found columns t.lines t.to_load x y l f).first
 
         within : y < length t.lines
         within = at (let c : (y < length t.lines) ⊎ (length t.lines ≤ y) = grind arith in c)

@@ -52,13 +52,13 @@ module _ (width x y r p : ℕ) (old : Grid) (mid : List ℤ) (h : IsGrid width o
   -- the rows of variables that keep their places
   forth : (v q : ℕ) → slice_get old.places.items v ≡ Some (Row q) → q ≢ r → slice_get (set (set old.places.items x (Column p)) y (Row r)) v ≡ Some (Row q)
   forth v q e n =
-      at_others old.columns old.places.items h.placing x y r p ex ey v
+      at_others old.places.items x y r p ex ey v
       (λ f. n (let g : Row q ≡ Row r = same_place old.places.items x _ _ (subst (λ k. slice_get old.places.items k ≡ Some (Row q)) f e) ex in let i : q ≡ r = cc in i))
       (λ f. let g : Row q ≡ Column p = same_place old.places.items y _ _ (subst (λ k. slice_get old.places.items k ≡ Some (Row q)) f e) ey in cc)
       ∙ e
 
   back : (v q : ℕ) → slice_get (set (set old.places.items x (Column p)) y (Row r)) v ≡ Some (Row q) → q ≢ r → slice_get old.places.items v ≡ Some (Row q)
-  back v q e n = by (came old.columns old.places.items h.placing x y r p ex ey v (Row q) e)
+  back v q e n = by (came old.places.items x y r p ex ey v (Row q) e)
     where
       by : ((v ≡ x) × (Row q ≡ Column p)) ⊎ ((v ≡ y) × (Row q ≡ Row r)) ⊎ ((v ≢ x) × (v ≢ y) × (slice_get old.places.items v ≡ Some (Row q))) → slice_get old.places.items v ≡ Some (Row q)
       by (inl f) = let g : Row q ≡ Column p = f.1 in cc

@@ -8,9 +8,9 @@ use Rattle.strict_solver.specs.Equations.{combination, Holds}
 use Rattle.strict_solver.proofs.Forms.{back}
 use Rattle.strict_solver.proofs.Pivots.{IsTable, in_table, run-table, run-length, run-held}
 use Rattle.strict_solver.proofs.Moves.{no_first_slack, moving-feasible, move_of-feasible, int_lt-not_zero}
-use Rattle.strict_solver.proofs.Values.{common, values_by, common-positive, length-values, value-none, value-some, values-hold, factor_at_least}
+use Rattle.strict_solver.proofs.Values.{common, values_by, common-positive, length-values, value-none, value-some, values-hold}
 use Rattle.strict_solver.proofs.Runs.{AreRows, start_lines, start-at, start-length, start-is_table}
-use Rattle.ntfe_nums.proofs.Signs.{positive_some, product_not_negative}
+use Rattle.ntfe_nums.proofs.Signs.{not_negative, positive_some, product_not_negative, factor_not_negative}
 
 pub combination-zeros : (n : ℕ) (vs : List ℤ) → combination (replicate n (pos 0)) vs ≡ pos 0
 combination-zeros zero vs = refl
@@ -68,8 +68,8 @@ module _ (columns : ℕ) (rs : List (List ℤ)) (width : Option ℕ) (heights : 
   common_positive : pos 0 <ℤ common f.end.lines
   common_positive = common-positive f.end.lines (λ z r e. (end_table z r e).positive)
 
-  not_negative : (z : ℕ) → columns ≤ z → pos 0 ≤ℤ get_or (values_by (pos (last_scale f.scales)) f.end.lines) z (pos 0)
-  not_negative z c = by (get_or f.end.lines z None) refl
+  slack_not_negative : (z : ℕ) → columns ≤ z → pos 0 ≤ℤ get_or (values_by (pos (last_scale f.scales)) f.end.lines) z (pos 0)
+  slack_not_negative z c = by (get_or f.end.lines z None) refl
     where
       none : first_negative columns f.end.lines ≡ None
       none = moving-feasible columns f.end.lines (move_of-feasible columns f.end f.move).1
@@ -77,15 +77,12 @@ module _ (columns : ℕ) (rs : List (List ℤ)) (width : Option ℕ) (heights : 
       by : (o : Option Line) → get_or f.end.lines z None ≡ o → pos 0 ≤ℤ get_or (values_by (pos (last_scale f.scales)) f.end.lines) z (pos 0)
       by None e = let g = value-none (pos (last_scale f.scales)) f.end.lines z e in omega (arith, ints)
       by (Some r) e =
-          factor_at_least r.d _ (end_table z r e).positive
+          factor_not_negative r.d _ (end_table z r e).positive
           (let P : ℤ → Type 0 = λ k. pos 0 ≤ℤ k in
           subst P (sym (value-some (pos (last_scale f.scales)) f.end.lines z r e))
           (product_not_negative (pos (last_scale f.scales) *ℤ common f.end.lines) r.c
-          (product_not_negative (pos (last_scale f.scales)) (common f.end.lines) (omega (arith, ints)) (weak _ common_positive))
+          (product_not_negative (pos (last_scale f.scales)) (common f.end.lines) (omega (arith, ints)) (not_negative _ common_positive))
           (int_lt-not_zero r.c (no_first_slack columns _ f.end.lines none z r c (in_table f.end.lines z r e) e))))
-        where
-          weak : (k : ℤ) → pos 0 <ℤ k → pos 0 ≤ℤ k
-          weak k g = omega (arith, ints)
 
   -- each row is at least the last scale at the heights
   pub feasible-scaled : (j : ℕ) → j < length rs → pos (last_scale f.scales) ≤ℤ combination (get_or rs j []) heights
@@ -101,13 +98,13 @@ module _ (columns : ℕ) (rs : List (List ℤ)) (width : Option ℕ) (heights : 
       let v = get_or (values_by (pos (last_scale f.scales)) f.end.lines) (columns + j) (pos 0) in
       let one = pos (last_scale f.scales) *ℤ common f.end.lines in
       above (combination (get_or rs j []) heights) (pos (last_scale f.scales))
-      (factor_at_least (common f.end.lines) (combination (get_or rs j []) heights -ℤ pos (last_scale f.scales)) common_positive
+      (factor_not_negative (common f.end.lines) (combination (get_or rs j []) heights -ℤ pos (last_scale f.scales)) common_positive
       (let P : ℤ → Type 0 = λ k. pos 0 ≤ℤ k in
       subst P (ring (v ∷ []) (var 0) (times (num (pos 1)) (var 0)) refl ∙ row ∙ ap (λ k. negsuc 0 *ℤ one +ℤ k) sum
       ∙ ring (pos (last_scale f.scales) ∷ common f.end.lines ∷ combination (get_or rs j []) heights ∷ [])
       (plus (times (num (negsuc 0)) (times (var 0) (var 1))) (times (var 1) (var 2)))
       (times (var 1) (minus (var 2) (var 0))) refl)
-      (not_negative (columns + j) (omega arith))))
+      (slack_not_negative (columns + j) (omega arith))))
     where
       above : (x y : ℤ) → pos 0 ≤ℤ (x -ℤ y) → y ≤ℤ x
       above x y g = omega (arith, ints)

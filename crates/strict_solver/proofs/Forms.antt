@@ -4,13 +4,13 @@
 use Rattle.std.proofs.Common.{◌≡◌, ◌≢◌, ℕ, zero, suc, ◌*◌, ◌<◌, refl, sym, ap, ◌∙◌, arith, ℤ, pos, negsuc, ◌+ℤ◌, ◌-ℤ◌, ◌*ℤ◌, neg_ℤ, ◌<ℤ◌, List, [], ◌∷◌, map, length, get_or, set, length-set, get_or-set_other}
 use Rattle.std.specs.Prelude.{zip, unsigned_abs}
 use Rattle.std.proofs.lemmas.Int.{ints, unsigned_abs-mul}
-use Rattle.std.proofs.lemmas.List.{get_or-map}
+use Rattle.std.proofs.lemmas.List.{get_or-map, length-map}
 use Rattle.ntfe_nums.specs.Vectors.{sign}
 use Rattle.ntfe_model.specs.Solver.{Line, coefficient_at, solved_for, with_put_in, IsReduced}
 use Rattle.ntfe_nums.proofs.Ring.{ring, product_zero}
 use Rattle.ntfe_nums.proofs.Ring.Expression.{var, num, plus, minus, times, neg}
 use Rattle.strict_solver.specs.Equations.{combination, LineHolds}
-use Rattle.ntfe_nums.proofs.Signs.{positive_some, size_zero}
+use Rattle.ntfe_nums.proofs.Signs.{positive_some, size_zero, none_apart, same_numbers_apart}
 
 pub combination-scaled : (k : ℤ) (es vs : List ℤ) → combination (map (λ e. k *ℤ e) es) vs ≡ k *ℤ combination es vs
 combination-scaled k [] vs = sym (product_zero k)
@@ -50,10 +50,6 @@ combination-zip d f (x ∷ xs) (y ∷ ys) (v ∷ vs) l =
     (plus (times (plus (times (var 2) (var 0)) (times (var 1) (var 3))) (var 4)) (plus (times (var 5) (var 0)) (times (var 1) (var 6))))
     (plus (times (plus (times (var 2) (var 4)) (var 5)) (var 0)) (times (var 1) (plus (times (var 3) (var 4)) (var 6)))) refl
 
-pub length_mapped : (g : ℤ → ℤ) (es : List ℤ) → length (map g es) ≡ length es
-length_mapped g [] = refl
-length_mapped g (e ∷ es) = ap suc (length_mapped g es)
-
 -- ---- equations
 
 no_product : (m n : ℕ) → 0 < m → m * n ≡ 0 → n ≡ 0
@@ -68,18 +64,12 @@ size_some (negsuc n) h = omega (arith, ints)
 pub zero_factor : (k z : ℤ) → k ≢ pos 0 → k *ℤ z ≡ pos 0 → z ≡ pos 0
 zero_factor k z h e = size_zero z (no_product (unsigned_abs k) (unsigned_abs z) (size_some k h) (sym (unsigned_abs-mul k z) ∙ ap unsigned_abs e))
 
-same_when : (p q : ℤ) → p -ℤ q ≡ pos 0 → p ≡ q
-same_when p q h = omega (arith, ints)
-
-no_difference : (p q : ℤ) → p ≡ q → p -ℤ q ≡ pos 0
-no_difference p q h = omega (arith, ints)
-
 -- an equation whose difference is k times another one's
 pub forth : (a b k p q : ℤ) → a -ℤ b ≡ k *ℤ (p -ℤ q) → p ≡ q → a ≡ b
-forth a b k p q i h = same_when a b (i ∙ ap (λ z. k *ℤ z) (no_difference p q h) ∙ product_zero k)
+forth a b k p q i h = none_apart a b (i ∙ ap (λ z. k *ℤ z) (same_numbers_apart p q h) ∙ product_zero k)
 
 pub back : (a b k p q : ℤ) → k ≢ pos 0 → a -ℤ b ≡ k *ℤ (p -ℤ q) → a ≡ b → p ≡ q
-back a b k p q n i h = same_when p q (zero_factor k (p -ℤ q) n (sym i ∙ no_difference a b h))
+back a b k p q n i h = none_apart p q (zero_factor k (p -ℤ q) n (sym i ∙ same_numbers_apart a b h))
 
 pub sign_some : (z : ℤ) → z ≢ pos 0 → sign z ≢ pos 0
 sign_some (pos zero) h e = h refl
@@ -94,7 +84,7 @@ combination-solved_for vs r x y ne lx ly len own =
     let s = sign (coefficient_at r y) in
     let first : List ℤ = map (λ e. neg_ℤ (s *ℤ e)) r.coefficients in
     let second : List ℤ = set first y (pos 0) in
-    let lf : length first ≡ length vs = length_mapped (λ e. neg_ℤ (s *ℤ e)) r.coefficients ∙ len in
+    let lf : length first ≡ length vs = length-map r.coefficients (λ e. neg_ℤ (s *ℤ e)) ∙ len in
     let ls : length second ≡ length vs = length-set first y (pos 0) ∙ lf in
     let at_y : get_or first y (pos 0) ≡ neg_ℤ (s *ℤ coefficient_at r y) = get_or-map (λ e. neg_ℤ (s *ℤ e)) r.coefficients y (pos 0) (pos 0) (omega arith) in
     let at_x : get_or second x (pos 0) ≡ pos 0 =
@@ -185,7 +175,7 @@ with_put_in-holds one vs q m z y ly lq lm positive hm =
     (minus (times (times (var 0) (var 1)) (var 2)) (plus (times (plus (times (var 3) (var 1)) (times (var 4) (var 5))) (var 6)) (plus (times (plus (var 7) (times (minus (num (pos 0)) (var 4)) (var 8))) (var 1)) (times (var 4) (var 9)))))
     (plus (times (var 1) (minus (times (var 0) (var 2)) (plus (times (var 3) (var 6)) (var 7)))) (times (var 4) (minus (times (var 1) (var 8)) (plus (times (var 5) (var 6)) (var 9)))))
     refl in
-    let j = i ∙ ap (λ s. m.d *ℤ (q.d *ℤ vz -ℤ (q.c *ℤ one +ℤ lq')) +ℤ f *ℤ s) (no_difference _ _ hm) ∙ dropped (m.d *ℤ (q.d *ℤ vz -ℤ (q.c *ℤ one +ℤ lq'))) f in
+    let j = i ∙ ap (λ s. m.d *ℤ (q.d *ℤ vz -ℤ (q.c *ℤ one +ℤ lq')) +ℤ f *ℤ s) (same_numbers_apart _ _ hm) ∙ dropped (m.d *ℤ (q.d *ℤ vz -ℤ (q.c *ℤ one +ℤ lq'))) f in
     (forth _ _ m.d _ _ j, back _ _ m.d _ _ (positive_some m.d positive) j)
   where
     dropped : (a f : ℤ) → a +ℤ f *ℤ pos 0 ≡ a

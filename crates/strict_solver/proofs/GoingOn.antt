@@ -2,25 +2,24 @@
 --     goes_on                 each table that the run on P reaches is followed by one that the run on P and q reaches
 --     going_on-feasible       where P's run ends feasible, that table has nothing left to load: either q's slack is basic in it, or the run ends there, feasible
 --     going_on-infeasible     where P's run ends infeasible, so does that of P and q, with the same multipliers
-use Rattle.std.proofs.Common.{◌≡◌, ◌≢◌, ℕ, zero, suc, ◌+◌, ◌-◌, ◌<◌, ◌≤◌, ◌==◌, ◌⊎◌, inl, inr, false, cond, not, refl, sym, ap, ◌∙◌, subst, arith, ℤ, pos, negsuc, int_lt, List, [], ◌∷◌, ◌++◌, map, filter, replicate, length, length-append, get_or, Some, None, Option}
+use Rattle.std.proofs.Common.{◌≡◌, ◌≢◌, ℕ, zero, suc, ◌+◌, ◌-◌, ◌<◌, ◌≤◌, ◌==◌, ◌⊎◌, inl, inr, false, cond, refl, sym, ap, ◌∙◌, subst, arith, ℤ, pos, negsuc, int_lt, List, [], ◌∷◌, ◌++◌, map, filter, replicate, length, length-append, get_or, Some, None}
 use Rattle.std.specs.Prelude.{is_none, unsigned_abs}
 use Rattle.std.specs.Option.{option_map_or}
 use Rattle.std.specs.List.{range_with_len}
 use Rattle.std.specs.Int.{◌∣◌}
-use Rattle.std.specs.Ordering.{int_eq}
 use Rattle.std.proofs.lemmas.Bool.Decides.{nat_tests}
 use Rattle.std.proofs.lemmas.List.{get_or_past, get_or_append_left}
 use Rattle.std.proofs.Math.Nat.{eq-one_of_dvd-one}
-use Rattle.ntfe_model.specs.Solver.{Line, Table, coefficient_at, IsPivot, start_line, start_table, first_slack, next_load, moving, move_of, multiplier_at, multipliers_of, IsStepOf, IsRun, Reaches, IsInfeasible}
+use Rattle.ntfe_model.specs.Solver.{Table, coefficient_at, IsPivot, start_line, start_table, next_load, moving, move_of, multiplier_at, multipliers_of, IsStepOf, IsRun, Reaches, IsInfeasible}
 use Rattle.ntfe_model.specs.Solver.Move.{pivot, feasible, infeasible}
 use Rattle.strict_solver.specs.Continuing.{wider, wider_line, IsLowest}
-use Rattle.strict_solver.proofs.Moves.{IsIn, loads, moves_same, first_slack-found, next_load-found, moving-pivot, move_of-pivot, move_of-feasible, move_of-infeasible, moving-infeasible, IsGone, IsLoad, IsFirstSlack}
-use Rattle.strict_solver.proofs.Pivots.{IsTable, get_here, get_there, pivot-table, run-table, run-length}
-use Rattle.strict_solver.proofs.Runs.{AreRows, start_lines, start-get, start-at, start-length, start-is_table, IsLoading, start-loading, step-loading}
+use Rattle.strict_solver.proofs.Moves.{IsIn, loads, moves_same, first_slack-found, next_load-found, moving-pivot, move_of-pivot, move_of-feasible, move_of-infeasible, moving-infeasible, IsGone, IsLoad, IsFirstSlack, IsRising}
+use Rattle.strict_solver.proofs.Pivots.{IsTable, get_here, get_there, pivot-table, run-table, run-length, AreLowest, pivot-lowest}
+use Rattle.strict_solver.proofs.Runs.{AreRows, start_lines, start-get, start-at, start-length, start-is_table, IsLoading, start-loading, step-loading, start-none}
 use Rattle.strict_solver.proofs.Multipliers.{more_left}
 use Rattle.strict_solver.proofs.Steps.{step_lines}
-use Rattle.strict_solver.proofs.Wider.{zero_after}
-use Rattle.strict_solver.proofs.Following.{Follows, AreLowest, pivot-lowest, pivot-follows, load-follows}
+use Rattle.strict_solver.proofs.Wider.{zero_after, wider_none}
+use Rattle.strict_solver.proofs.Following.{Follows, pivot-follows, load-follows}
 use Rattle.strict_solver.proofs.Chosen.{IsLastLoad, next_follows, moving_follows}
 use Rattle.strict_solver.proofs.Entries.{both_some, none_of}
 
@@ -35,11 +34,6 @@ row_more (z ∷ r) zs = ap (λ ys. z ∷ ys) (row_more r zs)
 
 pub start-wider : (m n : ℕ) (r : List ℤ) → m ≡ suc n → start_line m r ≡ wider (start_line n r)
 start-wider m n r e = ap (λ k. start_line k r) e ∙ (λ i. record { d = pos 1; c = negsuc 0; coefficients = (ap (λ zs. r ++ zs) (zeros_more n) ∙ row_more r (replicate n (pos 0))) i })
-
-pub start-none : (columns n : ℕ) (rs : List (List ℤ)) (z : ℕ) → z < columns → get_or (start_lines columns n rs) z None ≡ None
-start-none zero n rs z l = absurd (omega arith)
-start-none (suc columns) n rs zero l = refl
-start-none (suc columns) n rs (suc z) l = start-none columns n rs z (omega arith)
 
 pub start-lowest : (columns n : ℕ) (rs : List (List ℤ)) → AreLowest (start_lines columns n rs)
 start-lowest columns n rs z r e =
@@ -77,14 +71,10 @@ module _ (columns : ℕ) (rs : List (List ℤ)) (q : List ℤ) (w : AreRows colu
           ∙ ap Some (start-wider (length (rs ++ q ∷ [])) (length rs) (get_or rs (z - columns) []) one_more)
           ∙ ap wider_line (sym (start-at columns (length rs) rs z (z - columns) e j))
 
-      same_none : (o : Option Line) → is_none (wider_line o) ≡ is_none o
-      same_none None = refl
-      same_none (Some r) = refl
-
       basic : (z : ℕ) → z ≢ length (start_lines columns (length rs) rs) → (z < columns) ⊎ ((columns ≤ z) × (z < length (start_lines columns (length rs) rs))) ⊎ (length (start_lines columns (length rs) rs) < z)
           → is_none (get_or (start_lines columns (length (rs ++ q ∷ [])) (rs ++ q ∷ [])) z None) ≡ is_none (get_or (start_lines columns (length rs) rs) z None)
       basic z n (inl l) = ap is_none (start-none columns (length (rs ++ q ∷ [])) (rs ++ q ∷ []) z l ∙ sym (start-none columns (length rs) rs z l))
-      basic z n (inr (inl l)) = ap is_none (slack z l.0 l.1) ∙ same_none (get_or (start_lines columns (length rs) rs) z None)
+      basic z n (inr (inl l)) = ap is_none (slack z l.0 l.1) ∙ wider_none (get_or (start_lines columns (length rs) rs) z None)
       basic z n (inr (inr l)) =
           let a = start-length columns (length rs) rs in
           let b = start-length columns (length (rs ++ q ∷ [])) (rs ++ q ∷ []) in
@@ -92,10 +82,6 @@ module _ (columns : ℕ) (rs : List (List ℤ)) (q : List ℤ) (w : AreRows colu
           ap is_none (get_or_past (start_lines columns (length (rs ++ q ∷ [])) (rs ++ q ∷ [])) z None (omega arith) ∙ sym (get_or_past (start_lines columns (length rs) rs) z None (omega arith)))
 
 -- ---- what is to be loaded, in order
-abbrev pub IsRising : List ℕ → Type 0
-IsRising [] = Unit {0}
-IsRising (k ∷ ks) = ((j : ℕ) → IsIn j ks → k < j) × IsRising ks
-
 above_range : (a n k : ℕ) → IsIn k (range_with_len a n) → a ≤ k
 above_range a zero k i = absurd i
 above_range a (suc n) k (inl e) = omega arith
@@ -104,27 +90,6 @@ above_range a (suc n) k (inr i) = let h = above_range (a + 1) n k i in omega ari
 range-rising : (a n : ℕ) → IsRising (range_with_len a n)
 range-rising a zero = tt
 range-rising a (suc n) = ((λ j i. (let h = above_range (a + 1) n j i in omega arith)), range-rising (a + 1) n)
-
-abbrev next_of : Option (ℕ × ℕ × List ℕ) → ℕ
-next_of None = 0
-next_of (Some l) = l.1
-
-abbrev rest_of : Option (ℕ × ℕ × List ℕ) → List ℕ
-rest_of None = []
-rest_of (Some l) = l.2
-
-load-rising : (columns : ℕ) (s : List (Option Line)) (ks : List ℕ) (x k : ℕ) (l : List ℕ) → next_load columns s ks ≡ Some (x, k, l) → IsRising ks → ((j : ℕ) → IsIn j l → k < j) × IsRising l
-load-rising columns s [] x k l e r = cc
-load-rising columns s (j ∷ ks) x k l e r = by (first_slack columns (λ r. not (int_eq (coefficient_at r j) (pos 0))) s) e (load-rising columns s ks x k l)
-  where
-    by : (o : Option ℕ) → option_map_or (λ x. Some (x, j, ks)) o (next_load columns s ks) ≡ Some (x, k, l) → (next_load columns s ks ≡ Some (x, k, l) → IsRising ks → ((j : ℕ) → IsIn j l → k < j) × IsRising l)
-        → ((j : ℕ) → IsIn j l → k < j) × IsRising l
-    by None g rest = rest g r.1
-    by (Some u) g rest =
-        let a : j ≡ k = ap next_of g in
-        let b : ks ≡ l = ap rest_of g in
-        let P : List ℕ → Type 0 = λ m. ((i : ℕ) → IsIn i m → k < i) × IsRising m in
-        subst P b ((λ i h. (let c = r.0 i h in omega arith)), r.1)
 
 -- ---- runs
 pub record HasFollowed (columns : ℕ) (s u : Table) (e : ℕ) : Type 0 where
@@ -174,7 +139,7 @@ catch-up columns s u e w low c h = by (next_follows columns s.lines u.lines e w 
         some i = l.some (ap (λ r. coefficient_at r l.k) same_line ∙ i)
 
         order : ((j : ℕ) → IsIn j l.rest → l.k < j) × IsRising l.rest
-        order = load-rising columns u.lines u.to_load (length s.lines) l.k l.rest l.next h.rising
+        order = (next_load-found columns u.lines u.to_load (length s.lines) l.k l.rest l.next).rising h.rising
 
         before : (j : ℕ) → j < l.k → get_or s.lines j None ≡ None → IsGone columns s.lines j × (coefficient_at f.line j ≡ pos 0)
         before j lj none = ((λ z r cz lz e. sym (zero_after r.coefficients j) ∙ gone z (wider r) cz (let a = f.longer in omega arith) (f.slacks z cz lz ∙ ap wider_line e)), gone (length s.lines) f.line c (let a = f.longer in omega arith) f.extra)
@@ -228,7 +193,7 @@ module _ (columns : ℕ) (s t u : Table) (e : ℕ) (w : IsTable s.lines) (c : co
       by : (next_load columns s.lines s.to_load ≡ Some (m.0, m.1, t.to_load)) ⊎ ((next_load columns s.lines s.to_load ≡ None) × (moving columns s.lines ≡ pivot m.0 m.1 t.to_load)) → Chosen
       by (inl a) =
           let l = next_load-found columns s.lines u.to_load m.0 m.1 t.to_load (h.followed.next ∙ a) in
-          record { slack = l.slack; move = ap (λ o. option_map_or loads o (moving columns u.lines)) (h.even ∙ a); small = λ k i. h.followed.small k (l.fewer k i); rising = (load-rising columns s.lines u.to_load m.0 m.1 t.to_load (h.followed.next ∙ a) h.followed.rising).1 }
+          record { slack = l.slack; move = ap (λ o. option_map_or loads o (moving columns u.lines)) (h.even ∙ a); small = λ k i. h.followed.small k (l.fewer k i); rising = ((next_load-found columns s.lines u.to_load m.0 m.1 t.to_load (h.followed.next ∙ a)).rising h.followed.rising).1 }
       by (inr a) = record {
         slack = (first_slack-found columns (λ r. int_lt r.c (pos 0)) s.lines m.0 (moving-pivot columns s.lines m.0 m.1 t.to_load a.1).0.leaving).slack;
         move = ap (λ o. option_map_or loads o (moving columns u.lines)) (h.even ∙ a.0) ∙ on (moving_follows columns s.lines u.lines e w c h.followed.follows);
@@ -372,8 +337,3 @@ module _ (columns : ℕ) (rs : List (List ℤ)) (q : List ℤ) (w : AreRows colu
               ap (λ b. cond b f.row.d (pos (unsigned_abs (coefficient_at (wider f.row) (columns + length rs))))) not_last
               ∙ ap (λ z. pos (unsigned_abs z)) (zero_after f.row.coefficients (columns + length rs)
               ∙ get_or_past f.row.coefficients (columns + length rs) (pos 0) (let a = (table f.slack f.row here.0).count in let b = end-length f.steps f.end f.reaches in omega arith))
-
-  -- at the same slack
-  pub going_on-slack : (ms : List (ℕ × ℤ)) (f : IsInfeasible columns rs None ms) → (going_on-infeasible ms f).slack ≡ f.slack
-  unfolding going_on-infeasible
-  going_on-slack ms f = refl

@@ -2,20 +2,20 @@
 --     heights_line     the line with the heights, in lowest form
 --     heights-are      they are the heights of the stated run
 --     stuck-end        the multipliers of a line in lowest form are those of the stated run
-use Rattle.std.proofs.Common.{◌≡◌, ℕ, zero, suc, ◌+◌, ◌*◌, ◌/◌, ◌^◌, ◌<◌, ◌≤◌, ◌⊎◌, inl, inr, refl, sym, ap, ◌∙◌, subst, arith, ℤ, pos, negsuc, ◌+ℤ◌, ◌*ℤ◌, ◌<ℤ◌, List, [], ◌∷◌, map, length, get_or, unsigned_abs, Some, None, Option}
+use Rattle.std.proofs.Common.{◌≡◌, ℕ, zero, suc, ◌+◌, ◌*◌, ◌/◌, ◌<◌, ◌≤◌, ◌⊎◌, inl, inr, refl, sym, ap, ◌∙◌, subst, arith, ℤ, pos, negsuc, ◌+ℤ◌, ◌*ℤ◌, ◌<ℤ◌, List, [], ◌∷◌, map, length, get_or, unsigned_abs, Some, None, Option}
 use Rattle.std.specs.Int.{◌∣◌}
 use Rattle.std.proofs.lemmas.Int.{ints, unsigned_abs-mul}
 use Rattle.std.proofs.lemmas.List.{get_or_default, length-map, same_lists}
 use Rattle.std.proofs.lemmas.Nat.Gcd.{dvd-zero}
 use Rattle.std.proofs.Math.Nat.{dvd-mul_right}
-use Rattle.ntfe_nums.proofs.Ring.{ring, product_zero}
+use Rattle.ntfe_nums.proofs.Ring.{ring, product_zero, sum_zero}
 use Rattle.ntfe_nums.proofs.Ring.Expression.{var, times}
 use Rattle.ntfe_model.specs.declared.nogood.Fold.{Fold}
 use Rattle.ntfe_model.specs.Solver.{Line, start_table, fold_row, multipliers_of, IsReduced, IsFeasible, IsInfeasible}
 use Rattle.strict_solver.specs.declared.place.Place.{Place}
 use Rattle.strict_solver.specs.declared.place.Place.TheVariants.{Row, Column}
 use Rattle.strict_solver.specs.declared.basis.Basis.{Basis}
-use Rattle.strict_solver.specs.Rows.{number, number_at, line_in, IsLowered, AreNarrow}
+use Rattle.strict_solver.specs.Rows.{number, number_at, line_in, IsLowered}
 use Rattle.strict_solver.specs.Grids.{row_at}
 use Rattle.strict_solver.specs.Scales.{scale_to, scales_of, height_by, heights_by}
 use Rattle.strict_solver.specs.Starts.{AreFoldsOver}
@@ -24,13 +24,12 @@ use Rattle.strict_solver.specs.Standing.{cell_at, StandsFor, StandsAtEnd, HasHei
 use Rattle.strict_solver.proofs.Forms.{zero_factor, pos_some}
 use Rattle.strict_solver.proofs.Pivots.{IsTable, get_there}
 use Rattle.strict_solver.proofs.Rows.{number_past}
-use Rattle.strict_solver.proofs.ShortRows.{factor_small}
 use Rattle.strict_solver.proofs.Moves.{first_slack-found, moving-infeasible}
 use Rattle.strict_solver.proofs.Values.{common, values_by, length-values, value-none, values-hold, value-some, combination-none}
 use Rattle.strict_solver.proofs.Placing.{coefficient_there}
 use Rattle.strict_solver.proofs.Denominators.{quotient_of}
 use Rattle.strict_solver.proofs.Scaling.{IsLeastScale, least_scale, scaling_is, ranged_length, ranged_get, height_is}
-use Rattle.strict_solver.proofs.Unique.{cancel, proportion, zero_right}
+use Rattle.strict_solver.proofs.Unique.{cancel, proportion}
 use Rattle.strict_solver.proofs.Outcome.{are_rows}
 use Rattle.strict_solver.proofs.Elimination.{from_place}
 use Rattle.strict_solver.proofs.LineOf.{line-reduced}
@@ -41,6 +40,8 @@ use Rattle.strict_solver.proofs.SlackLines.{reached-table, still_some, lowest-sa
 use Rattle.strict_solver.proofs.Standing.{place-basic}
 use Rattle.strict_solver.proofs.StandingMoves.{loaded-table, raw, real}
 use Rattle.strict_solver.proofs.One.{cancels}
+use Rattle.ntfe_nums.proofs.Signs.{some_size}
+use Rattle.ntfe_model.proofs.Lists.{some_once}
 
 pub heights_line : (b : Basis) (gathered low line : List ℤ) → length gathered ≡ b.columns + 2 → number gathered 0 ≡ b.denominator → ((k : ℕ) → k < b.columns → number gathered (k + 1) ≡ cell_at b.columns b.cells.items 1 k)
     → number gathered (b.columns + 1) ≡ pos 0 → IsLowered gathered low → line ≡ low → HasHeights b line
@@ -61,9 +62,6 @@ heights_line b gathered low line count first each last h e = let P : List ℤ �
     divides m all j (inr (inl f)) = subst (λ z. m ∣ unsigned_abs z) (sym (none j (ap (number gathered) (sym f) ∙ last))) (dvd-zero m)
     divides m all j (inr (inr l)) = subst (λ z. m ∣ unsigned_abs z) (sym (none j (number_past gathered j (omega arith)))) (dvd-zero m)
 
-pub lowered_narrow : (old new : List ℤ) → IsLowered old new → AreNarrow 30 old → AreNarrow 30 new
-lowered_narrow old new h n = record { each = λ k. factor_small h.k (number new k) (number old k) (2 ^ 30) h.factor (sym (h.same k)) (n.each k) }
-
 -- ---- a height's row and its line
 module _ (columns : ℕ) (places : List Place) (cells : List ℤ) (d : ℤ) (s : List (Option Line)) (w : IsTable s) (h : StandsFor columns places cells d s) where
   still : (k : ℕ) → k < columns → d *ℤ get_or (values_by (pos 1) s) k (pos 0) ≡ cell_at columns cells 1 k *ℤ (pos 1 *ℤ common s)
@@ -71,7 +69,7 @@ module _ (columns : ℕ) (places : List Place) (cells : List ℤ) (d : ℤ) (s :
       ap (λ z. z *ℤ get_or (values_by (pos 1) s) k (pos 0)) (sym (h.first k l))
       ∙ h.holds (pos 1 *ℤ common s) (values_by (pos 1) s) (length-values (pos 1) s) (values-hold (pos 1) s w) k l
       ∙ ap (λ z. cell_at columns cells 1 k *ℤ (pos 1 *ℤ common s) +ℤ z) (combination-none (map (number_at (row_at (columns + 2) cells k)) places) (values_by (pos 1) s) none)
-      ∙ zero_right (cell_at columns cells 1 k *ℤ (pos 1 *ℤ common s))
+      ∙ sum_zero (cell_at columns cells 1 k *ℤ (pos 1 *ℤ common s))
     where
       none : (v : ℕ) → (get_or (map (number_at (row_at (columns + 2) cells k)) places) v (pos 0) ≡ pos 0) ⊎ (get_or (values_by (pos 1) s) v (pos 0) ≡ pos 0)
       none v = by (get_or s v None) refl
@@ -148,11 +146,8 @@ module _ (b : Basis) (fs : List Fold) (h : StandsAtEnd b fs) (line : List ℤ) (
 
           by : (o : Option Line) → get_or h.end.lines k None ≡ o → a ∣ unsigned_abs (number line (suc k))
           by None f = subst (λ n. a ∣ unsigned_abs n) (sym (ap (number line) (sym kk) ∙ other-height k (omega arith) f)) (dvd-zero a)
-          by (Some r) f = subst (λ n. a ∣ unsigned_abs (number line n)) kk (part (unsigned_abs r.d) (unsigned_abs (number line (k + 1))) (unsigned_abs r.c) (least.whole k r (omega arith) f) (size_some r.d (table k r f).positive) same)
+          by (Some r) f = subst (λ n. a ∣ unsigned_abs (number line n)) kk (part (unsigned_abs r.d) (unsigned_abs (number line (k + 1))) (unsigned_abs r.c) (least.whole k r (omega arith) f) (some_size r.d (table k r f).positive) same)
             where
-              size_some : (z : ℤ) → pos 0 <ℤ z → 0 < unsigned_abs z
-              size_some z p = omega (arith, ints)
-
               same : unsigned_abs r.d * unsigned_abs (number line (k + 1)) ≡ scale_to h.end.lines b.columns * a * unsigned_abs r.c
               same = sym (unsigned_abs-mul r.d (number line (k + 1))) ∙ ap unsigned_abs (basic-height k r (omega arith) f) ∙ unsigned_abs-mul (number line 0) r.c ∙ ap (λ n. n * unsigned_abs r.c) e
 
@@ -187,11 +182,8 @@ module _ (b : Basis) (fs : List Fold) (h : StandsAtEnd b fs) (line : List ℤ) (
   height-at k l (Some r) e =
       cancel r.d (number line (k + 1)) (height_by (scale_to h.end.lines b.columns) (Some r)) (λ f. (let a = (table k r e).positive in omega (arith, ints)))
       (basic-height k r l e ∙ ap (λ z. z *ℤ r.c) (sym scale-number)
-      ∙ sym (height_is (scale_to h.end.lines b.columns) (Some r) (λ q f. (let P : Line → Type 0 = λ z. pos 0 <ℤ z.d in subst P (same r q f) (table k r e).positive))
-      (λ q f. (let P : Line → Type 0 = λ z. unsigned_abs z.d ∣ scale_to h.end.lines b.columns * unsigned_abs z.c in subst P (same r q f) (least.whole k r l e)))))
-    where
-      same : (p q : Line) → Some p ≡ Some q → p ≡ q
-      same p q f = cc
+      ∙ sym (height_is (scale_to h.end.lines b.columns) (Some r) (λ q f. (let P : Line → Type 0 = λ z. pos 0 <ℤ z.d in subst P (some_once r q f) (table k r e).positive))
+      (λ q f. (let P : Line → Type 0 = λ z. unsigned_abs z.d ∣ scale_to h.end.lines b.columns * unsigned_abs z.c in subst P (some_once r q f) (least.whole k r l e)))))
 
   pub heights-are : (hs : List ℤ) → length hs ≡ b.columns → ((k : ℕ) → k < b.columns → get_or hs k (pos 0) ≡ number line (k + 1)) → IsFeasible b.columns (map (fold_row b.columns) fs) None hs
   heights-are hs c each =

@@ -12,6 +12,7 @@ use Rattle.strict_solver.proofs.Bland.{IsLoaded}
 use Rattle.strict_solver.proofs.Runs.{AreRows, start-get, start-length, start-is_table, start-loading, run-loading, end-loaded}
 use Rattle.strict_solver.proofs.Feasible.{start-combination}
 use Rattle.ntfe_nums.proofs.Comparisons.{same_from_test, other_from_test}
+use Rattle.ntfe_nums.proofs.Signs.{zero_between}
 
 -- the sum of the multipliers times what f says of their rows
 abbrev pub weighted : List (ℕ × ℤ) → (ℕ → ℤ) → ℤ
@@ -36,13 +37,10 @@ weighted-filter m f h a (suc n) = by (int_lt (pos 0) (m a)) refl (weighted-filte
     add : (x y : ℤ) → x ≡ pos 0 → y ≡ x +ℤ y
     add x y e = omega (arith, ints)
 
-    is_zero : (z : ℤ) → pos 0 ≤ℤ z → z ≤ℤ pos 0 → z ≡ pos 0
-    is_zero z g i = omega (arith, ints)
-
     by : (b : Bool) → int_lt (pos 0) (m a) ≡ b → weighted (filter (λ e. int_lt (pos 0) e.1) (map (λ j. (j, m j)) (range_with_len (a + 1) n))) f ≡ total (λ j. m j *ℤ f j) (a + 1) n
         → weighted (cond b ((a, m a) ∷ filter (λ e. int_lt (pos 0) e.1) (map (λ j. (j, m j)) (range_with_len (a + 1) n))) (filter (λ e. int_lt (pos 0) e.1) (map (λ j. (j, m j)) (range_with_len (a + 1) n)))) f ≡ m a *ℤ f a +ℤ total (λ j. m j *ℤ f j) (a + 1) n
     by true e g = ap (λ z. m a *ℤ f a +ℤ z) g
-    by false e g = g ∙ add _ _ (none (m a) (f a) (is_zero (m a) (h a) (int_lt-not_positive (m a) e)))
+    by false e g = g ∙ add _ _ (none (m a) (f a) (zero_between (m a) (h a) (int_lt-not_positive (m a) e)))
 
 total-sum : (g h k : ℕ → ℤ) (n : ℕ) → ((j : ℕ) → j < n → g j +ℤ h j ≡ k j) → (a l : ℕ) → a + l ≤ n → total g a l +ℤ total h a l ≡ total k a l
 total-sum g h k n e a zero i = refl
@@ -175,9 +173,6 @@ module _ (columns : ℕ) (rs : List (List ℤ)) (width : Option ℕ) (ms : List 
         ∙ ap (λ k. negsuc 0 *ℤ pos 0 +ℤ k)
         (sym (start-combination (pos 1) (get_or rs h.0 []) ws (with_rows ws rs) (length rs) (c ∙ sym l) (let a = with_rows-length ws ws rs in omega arith)
         (λ k g. with_rows-height ws (map (λ r. combination r ws) rs) k g ∙ sym (one_product (get_or ws k (pos 0)))))))))
-
-    said : ℕ → ℤ
-    said j = combination (get_or rs j []) ws
 
     own : ℕ → ℤ
     own j = cond (columns + j == f.slack) (f.row.d *ℤ combination (get_or rs j []) ws) (pos 0)

@@ -9,13 +9,13 @@ use Rattle.ntfe_model.specs.Solver.{Line, Table, coefficient_at, start_table, ne
 use Rattle.ntfe_model.specs.Solver.Move.{feasible}
 use Rattle.strict_solver.specs.Equations.{combination, LineHolds, Holds}
 use Rattle.strict_solver.specs.Continuing.{wider, wider_line, IsLowest, IsLineFor, with_row}
-use Rattle.strict_solver.proofs.Pivots.{IsLineOf, IsTable, in_table, pivot-held}
+use Rattle.strict_solver.proofs.Pivots.{IsLineOf, IsTable, in_table, pivot-held, AreLowest, pivot-lowest, run-keeps}
 use Rattle.strict_solver.proofs.Moves.{move_of-feasible}
 use Rattle.strict_solver.proofs.Bland.{IsLoaded}
 use Rattle.strict_solver.proofs.Runs.{AreRows, start-length, start-is_table, start-loading, run-loading, end-loaded}
 use Rattle.strict_solver.proofs.Steps.{step_lines}
-use Rattle.strict_solver.proofs.Wider.{zero_after, wider-lowest}
-use Rattle.strict_solver.proofs.Following.{Follows, AreLowest, pivot-lowest, load-follows}
+use Rattle.strict_solver.proofs.Wider.{zero_after, wider-lowest, wider_none}
+use Rattle.strict_solver.proofs.Following.{Follows, load-follows}
 use Rattle.strict_solver.proofs.GoingOn.{start-lowest, rows_short, GoesOn, end-length, end-table}
 use Rattle.strict_solver.proofs.Deciding.{last-get, wider-sum, end-extends, loads-least, loads-none}
 use Rattle.strict_solver.proofs.Unique.{cancel, same-tables}
@@ -38,10 +38,6 @@ row-length (o ∷ s) l = ap suc (row-length s l)
 from_wider : (o : Option Line) (r : Line) → wider_line o ≡ Some r → (q : Line) × (o ≡ Some q) × (r ≡ wider q)
 from_wider None r e = cc
 from_wider (Some q) r e = (q, refl, both_some (Some (wider q)) r (wider q) e refl)
-
-wider_none : (o : Option Line) → is_none (wider_line o) ≡ is_none o
-wider_none None = refl
-wider_none (Some r) = refl
 
 narrow-holds : (one t : ℤ) (vs : List ℤ) (z : ℕ) (r : Line) → length r.coefficients ≡ length vs → z < length vs → LineHolds one (vs ++ t ∷ []) z (wider r) → LineHolds one vs z r
 narrow-holds one t vs z r l h e = ap (λ v. r.d *ℤ v) (sym (get_or_append_left vs (t ∷ []) (pos 0) z h)) ∙ e ∙ ap (λ k. r.c *ℤ one +ℤ k) (wider-sum r.coefficients vs t l)
@@ -116,8 +112,7 @@ split-last zero (v ∷ u ∷ vs) e = absurd (omega arith)
 split-last (suc n) (v ∷ u ∷ vs) e = let h = split-last n (u ∷ vs) (omega arith) in (v ∷ h.0, h.1, ap (λ k. v ∷ k) h.2, ap suc h.3)
 
 pub run-lowest : (columns : ℕ) (s : Table) (ts : List Table) (t : Table) → IsRun columns s ts t → AreLowest s.lines → AreLowest t.lines
-run-lowest columns s [] t m low = let P : Table → Type 0 = λ k. AreLowest k.lines in subst P m low
-run-lowest columns s (r ∷ ts) t m low = run-lowest columns r ts t m.1 (pivot-lowest m.0.0 m.0.1 s.lines r.lines m.0.3 low)
+run-lowest columns = run-keeps columns (λ r. AreLowest r.lines) (λ a b k. pivot-lowest k.0 k.1 a.lines b.lines k.3)
 
 same-basics : (columns : ℕ) (s u v : List (Option Line)) (e : ℕ) → Follows columns s u e → Follows columns s v e → (z : ℕ) → is_none (get_or u z None) ≡ is_none (get_or v z None)
 same-basics columns s u v e f g z = by (let c : (z ≡ e) ⊎ (z ≢ e) = grind arith in c)

@@ -1,28 +1,13 @@
 -- How long runs are: each height is loaded once at most, and then come fewer moves than there are sets of slacks.
-use Rattle.std.proofs.Common.{◌≡◌, ℕ, suc, ◌+◌, ◌-◌, ◌^◌, ◌<◌, ◌⊎◌, inl, inr, not, ap, ◌∙◌, subst, arith, ℤ, pos, List, [], ◌∷◌, length, Some, None, Option}
-use Rattle.std.specs.Option.{option_map_or}
-use Rattle.std.specs.Ordering.{int_eq}
+use Rattle.std.proofs.Common.{◌≡◌, ℕ, suc, ◌+◌, ◌-◌, ◌^◌, ◌<◌, ◌⊎◌, inl, inr, ap, ◌∙◌, subst, arith, ℤ, List, [], ◌∷◌, length, Some, None}
 use Rattle.std.proofs.lemmas.Nat.{pow_pos}
 use Rattle.std.proofs.lemmas.List.FromFn.{length-range_with_len}
-use Rattle.ntfe_model.specs.Solver.{Line, Table, Move, coefficient_at, start_table, first_slack, next_load, moving, IsRun}
+use Rattle.ntfe_model.specs.Solver.{Table, Move, start_table, next_load, moving, IsRun}
 use Rattle.strict_solver.specs.Lengths.{AreRowsOver, IsMovingRun}
 use Rattle.strict_solver.proofs.Pivots.{IsTable, pivot-table, run-table, run-length}
-use Rattle.strict_solver.proofs.Moves.{move_of-pivot}
+use Rattle.strict_solver.proofs.Moves.{move_of-pivot, next_load-found}
 use Rattle.strict_solver.proofs.Runs.{IsLoading, lines_of, start-length, start-is_table, start-loading, step-loading, run-loading, end-loaded, run-moving}
 use Rattle.strict_solver.proofs.Bound.{few_moves}
-
-abbrev rest_or : Option (ℕ × ℕ × List ℕ) → List ℕ
-rest_or None = []
-rest_or (Some l) = l.2
-
--- a load leaves less to be loaded
-load_less : (columns : ℕ) (s : List (Option Line)) (ks : List ℕ) (x y : ℕ) (l : List ℕ) → next_load columns s ks ≡ Some (x, y, l) → length l < length ks
-load_less columns s [] x y l e = cc
-load_less columns s (k ∷ ks) x y l e = by (first_slack columns (λ r. not (int_eq (coefficient_at r k) (pos 0))) s) e (load_less columns s ks x y l)
-  where
-    by : (o : Option ℕ) → option_map_or (λ z. Some (z, k, ks)) o (next_load columns s ks) ≡ Some (x, y, l) → (next_load columns s ks ≡ Some (x, y, l) → length l < length ks) → length l < length (k ∷ ks)
-    by None f rest = let h = rest f in omega arith
-    by (Some z) f rest = let h : length ks ≡ length l = ap (λ o. length (rest_or o)) f in omega arith
 
 lines-count : (ts : List Table) → length (lines_of ts) ≡ length ts
 lines-count [] = let e : 0 ≡ 0 = omega arith in e
@@ -44,7 +29,7 @@ module _ (columns n : ℕ) where
       by : (next_load columns s.lines s.to_load ≡ Some (m.0.0, m.0.1, r.to_load)) ⊎ ((next_load columns s.lines s.to_load ≡ None) × (moving columns s.lines ≡ Move.pivot m.0.0 m.0.1 r.to_load))
           → (IsRun columns r ts t → IsTable r.lines → length r.lines ≡ columns + n → IsLoading columns r → length ts < length r.to_load + 2 ^ n) → length (r ∷ ts) < length s.to_load + 2 ^ n
       by (inl f) rest =
-          let a = load_less columns s.lines s.to_load m.0.0 m.0.1 r.to_load f in
+          let a = (next_load-found columns s.lines s.to_load m.0.0 m.0.1 r.to_load f).shorter in
           let b = rest m.1 (pivot-table m.0.0 m.0.1 s.lines r.lines m.0.3 w) (m.0.3.length_same ∙ e) (step-loading columns s r m.0 w (omega arith) l) in
           omega arith
       by (inr f) rest = let a = moves_few s (r ∷ ts) t m w e l f.0 in omega arith

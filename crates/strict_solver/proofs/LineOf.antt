@@ -1,17 +1,16 @@
 -- The line of a row's slack over the variables that are not basic: the heights' lines put into the row, one after the other.
 use Rattle.std.proofs.Common.{◌≡◌, ℕ, zero, suc, ◌-◌, ◌<◌, ◌≤◌, ◌⊎◌, inl, inr, refl, sym, ap, ◌∙◌, arith, ℤ, pos, negsuc, ◌+ℤ◌, ◌-ℤ◌, ◌*ℤ◌, ◌<ℤ◌, List, [], ◌∷◌, ◌++◌, map, replicate, length, length-append, length-set, get_or, set, get_or-set_same, get_or-set_other, Some, None, Option}
 use Rattle.std.proofs.lemmas.Int.{ints}
-use Rattle.std.proofs.lemmas.List.{length-replicate}
+use Rattle.std.proofs.lemmas.List.{length-replicate, length-map}
 use Rattle.ntfe_nums.proofs.Ring.{ring}
 use Rattle.ntfe_nums.proofs.Ring.Expression.{var, num, plus, minus, times}
 use Rattle.ntfe_model.specs.Solver.{Line, coefficient_at, with_put_in, IsReduced}
 use Rattle.strict_solver.specs.Equations.{combination, Holds}
-use Rattle.strict_solver.specs.Continuing.{IsLowest, IsLineFor}
-use Rattle.strict_solver.proofs.Forms.{combination-scaled, combination-set, combination-zip, length_mapped, reduced_parts, pos_some}
-use Rattle.strict_solver.proofs.Pivots.{IsTable, in_table, coefficient-put_in, length-zipped}
-use Rattle.strict_solver.proofs.Reduced.{reduced, reduced-is}
+use Rattle.strict_solver.specs.Continuing.{IsLineFor}
+use Rattle.strict_solver.proofs.Forms.{combination-scaled, combination-set, combination-zip, reduced_parts, pos_some}
+use Rattle.strict_solver.proofs.Pivots.{IsTable, in_table, coefficient-put_in, length-zipped, reduced-clear}
 use Rattle.strict_solver.proofs.Runs.{after_row}
-use Rattle.strict_solver.proofs.Wider.{reduced-clear}
+use Rattle.strict_solver.proofs.Wider.{no_terms}
 use Rattle.strict_solver.proofs.Deciding.{combination-padded}
 use Rattle.strict_solver.proofs.Unique.{cancel}
 use Rattle.strict_solver.proofs.Entries.{not_both}
@@ -59,9 +58,6 @@ module _ (columns : ℕ) (q : List ℤ) (s : List (Option Line)) (w : IsTable s)
       value = value;
     }
       where
-        nothing : (a f : ℤ) → pos 0 *ℤ a +ℤ f *ℤ pos 0 ≡ pos 0
-        nothing a f = ring (a ∷ f ∷ []) (plus (times (num (pos 0)) (var 0)) (times (var 1) (num (pos 0)))) (num (pos 0)) refl
-
         set_zero : (b : ℕ) (r : Line) → get_or s b None ≡ Some r → (b < suc k) ⊎ (columns ≤ b) → get_or (set l.coefficients k (pos 0)) b (pos 0) ≡ pos 0
         set_zero b r e (inr h) = get_or-set_other l.coefficients k b (pos 0) (pos 0) (λ i. omega arith) ∙ u.zeros b r e (inr h)
         set_zero b r e (inl h) = at (let c : (b < k) ⊎ (b ≡ k) = grind arith in c)
@@ -77,7 +73,7 @@ module _ (columns : ℕ) (q : List ℤ) (s : List (Option Line)) (w : IsTable s)
             let d = (w k m em).count in
             coefficient-put_in l m k b (omega arith) (omega arith)
             ∙ (λ i. set_zero b r e h i *ℤ m.d +ℤ coefficient_at l k *ℤ (w k m em).zeros b r e i)
-            ∙ nothing m.d (coefficient_at l k)
+            ∙ no_terms m.d (coefficient_at l k)
 
         value : (one : ℤ) (vs : List ℤ) → length vs ≡ length s → Holds one vs s
             → (l.d *ℤ m.d) *ℤ (combination q vs -ℤ one) ≡ (l.c *ℤ m.d +ℤ coefficient_at l k *ℤ m.c) *ℤ one +ℤ combination (with_put_in l k m).coefficients vs
@@ -111,7 +107,7 @@ module _ (columns : ℕ) (q : List ℤ) (s : List (Option Line)) (w : IsTable s)
 -- a line in other numbers, and in lowest form
 pub line-reduced : (q : List ℤ) (s : List (Option Line)) (raw l : Line) → IsLineFor q s raw → IsReduced raw l → IsLineFor q s l
 line-reduced q s raw l f h = record {
-  count = sym (length_mapped (λ e. pos h.k *ℤ e) l.coefficients) ∙ sym (ap length (reduced_parts raw l h).2) ∙ f.count;
+  count = sym (length-map l.coefficients (λ e. pos h.k *ℤ e)) ∙ sym (ap length (reduced_parts raw l h).2) ∙ f.count;
   positive = h.positive;
   zeros = λ b r e. reduced-clear raw l b h (f.zeros b r e);
   value = λ one vs c g. cancel (pos h.k) (l.d *ℤ (combination q vs -ℤ one)) (l.c *ℤ one +ℤ combination l.coefficients vs) (pos_some h.k h.factor) (scaled one vs c g);
@@ -127,10 +123,3 @@ line-reduced q s raw l f h = record {
         ∙ f.value one vs c g
         ∙ (λ i. p.1 i *ℤ one +ℤ (ap (λ es. combination es vs) p.2 ∙ combination-scaled (pos h.k) l.coefficients vs) i)
         ∙ ring (pos h.k ∷ l.c ∷ one ∷ combination l.coefficients vs ∷ []) (plus (times (times (var 0) (var 1)) (var 2)) (times (var 0) (var 3))) (times (var 0) (plus (times (var 1) (var 2)) (var 3))) refl
-
--- there is such a line
-pub line-of : (columns : ℕ) (q : List ℤ) (s : List (Option Line)) → IsTable s → length q ≡ columns → columns ≤ length s → (l : Line) × IsLineFor q s l × IsLowest l
-line-of columns q s w cq cs =
-    let u = raw-line columns q s w cq cs in
-    let h = reduced-is u.0 u.1.positive in
-    (reduced u.0, line-reduced q s u.0 (reduced u.0) u.1 h, h.lowest)

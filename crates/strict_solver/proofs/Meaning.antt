@@ -1,11 +1,10 @@
 -- What the answers mean for the folds.
-use Rattle.std.proofs.Common.{◌≡◌, ℕ, zero, suc, ◌+◌, ◌-◌, ◌<◌, ◌≤◌, ◌==◌, ◌⊎◌, inl, inr, Bool, true, false, cond, refl, sym, ap, ◌∙◌, subst, arith, ℤ, pos, ◌+ℤ◌, ◌-ℤ◌, ◌*ℤ◌, ◌≤ℤ◌, int_lt, List, [], ◌∷◌, map, filter, length, get_or, Some, Option}
+use Rattle.std.proofs.Common.{◌≡◌, ℕ, zero, suc, ◌+◌, ◌-◌, ◌<◌, ◌≤◌, ◌⊎◌, inl, inr, Bool, true, false, cond, refl, sym, ap, ◌∙◌, subst, arith, ℤ, pos, ◌+ℤ◌, ◌-ℤ◌, ◌*ℤ◌, ◌≤ℤ◌, int_lt, List, [], ◌∷◌, map, filter, length, get_or, Some, Option}
 use Rattle.std.specs.Prelude.{All, AllPairs}
 use Rattle.std.specs.List.{range_with_len}
 use Rattle.std.proofs.lemmas.Int.{ints}
-use Rattle.std.proofs.lemmas.Bool.Decides.{nat_tests}
 use Rattle.std.proofs.lemmas.List.{length-map, get_or-map}
-use Rattle.ntfe_nums.proofs.Ring.{ring, zero_product}
+use Rattle.ntfe_nums.proofs.Ring.{ring, zero_product, sum_zero, one_product}
 use Rattle.ntfe_nums.proofs.Ring.Expression.{var, num, plus, minus, times}
 use Rattle.ntfe_model.specs.Certificates.{where_equal}
 use Rattle.ntfe_model.specs.Choices.{fold_value, height}
@@ -24,7 +23,7 @@ use Rattle.strict_solver.proofs.Feasible.{feasible-rows}
 use Rattle.strict_solver.proofs.Infeasible.{weighted}
 use Rattle.strict_solver.proofs.Cancel.{infeasible-coefficients}
 use Rattle.strict_solver.proofs.Scales.{infeasible-positive, infeasible-some}
-use Rattle.strict_solver.proofs.Starting.{elsewhere}
+use Rattle.ntfe_model.proofs.Coefficients.{equal_elsewhere, equal_there}
 
 -- ---- the value of a fold's row
 abbrev ranged : (ℕ → ℤ) → ℕ → ℕ → List ℤ
@@ -46,33 +45,27 @@ difference_of f g a (suc n) (h ∷ hs) =
     ∙ ring (f a ∷ g a ∷ h ∷ combination (ranged f (a + 1) n) hs ∷ combination (ranged g (a + 1) n) hs ∷ [])
     (plus (times (minus (var 0) (var 1)) (var 2)) (minus (var 3) (var 4))) (minus (plus (times (var 0) (var 2)) (var 3)) (plus (times (var 1) (var 2)) (var 4))) refl
 
-here_is : (p : ℕ) (z : ℤ) → where_equal p p z ≡ z
-here_is p z = ap (λ b. cond b z (pos 0)) (let e : (p == p) ≡ true = grind (arith, nat_tests) in e)
-
 nowhere : (p : ℕ) (z : ℤ) (a n : ℕ) (hs : List ℤ) → p < a → combination (ranged (λ k. where_equal p k z) a n) hs ≡ pos 0
 nowhere p z a zero hs l = refl
 nowhere p z a (suc n) [] l = refl
 nowhere p z a (suc n) (h ∷ hs) l =
-    (λ i. elsewhere p a z (λ e. omega arith) i *ℤ h +ℤ nowhere p z (a + 1) n hs (omega arith) i) ∙ ring (h ∷ []) (plus (times (num (pos 0)) (var 0)) (num (pos 0))) (num (pos 0)) refl
+    (λ i. equal_elsewhere p a z (λ e. omega arith) i *ℤ h +ℤ nowhere p z (a + 1) n hs (omega arith) i) ∙ ring (h ∷ []) (plus (times (num (pos 0)) (var 0)) (num (pos 0))) (num (pos 0)) refl
 
 single : (p : ℕ) (z : ℤ) (a n : ℕ) (hs : List ℤ) → length hs ≡ n → a ≤ p → p < a + n → combination (ranged (λ k. where_equal p k z) a n) hs ≡ z *ℤ get_or hs (p - a) (pos 0)
 single p z a zero hs c l m = absurd (omega arith)
 single p z a (suc n) [] c l m = absurd (omega arith)
 single p z a (suc n) (h ∷ hs) c l m = by (let d : (p ≡ a) ⊎ (a + 1 ≤ p) = grind arith in d) (single p z (a + 1) n hs)
   where
-    plain : (x : ℤ) → x +ℤ pos 0 ≡ x
-    plain x = omega (arith, ints)
-
     zeroed : (x : ℤ) → pos 0 *ℤ h +ℤ x ≡ x
     zeroed x = ap (λ k. k +ℤ x) (zero_product h) ∙ omega (arith, ints)
 
     by : (p ≡ a) ⊎ (a + 1 ≤ p) → (length hs ≡ n → a + 1 ≤ p → p < a + 1 + n → combination (ranged (λ k. where_equal p k z) (a + 1) n) hs ≡ z *ℤ get_or hs (p - (a + 1)) (pos 0))
         → where_equal p a z *ℤ h +ℤ combination (ranged (λ k. where_equal p k z) (a + 1) n) hs ≡ z *ℤ get_or (h ∷ hs) (p - a) (pos 0)
     by (inl e) rest =
-        (λ i. (ap (λ k. where_equal p k z) (sym e) ∙ here_is p z) i *ℤ h +ℤ nowhere p z (a + 1) n hs (omega arith) i)
-        ∙ plain (z *ℤ h) ∙ ap (λ k. z *ℤ get_or (h ∷ hs) k (pos 0)) (let q : 0 ≡ p - a = omega arith in q)
+        (λ i. (ap (λ k. where_equal p k z) (sym e) ∙ equal_there p z) i *ℤ h +ℤ nowhere p z (a + 1) n hs (omega arith) i)
+        ∙ sum_zero (z *ℤ h) ∙ ap (λ k. z *ℤ get_or (h ∷ hs) k (pos 0)) (let q : 0 ≡ p - a = omega arith in q)
     by (inr e) rest =
-        (λ i. elsewhere p a z (λ f. omega arith) i *ℤ h +ℤ rest (omega arith) e (omega arith) i)
+        (λ i. equal_elsewhere p a z (λ f. omega arith) i *ℤ h +ℤ rest (omega arith) e (omega arith) i)
         ∙ zeroed (z *ℤ get_or hs (p - (a + 1)) (pos 0))
         ∙ ap (λ k. z *ℤ get_or (h ∷ hs) k (pos 0)) (let q : suc (p - (a + 1)) ≡ p - a = omega arith in q)
 
@@ -82,13 +75,10 @@ row_value n f hs c h =
     ∙ ap (λ z. z -ℤ combination (ranged (λ k. where_equal f.b k f.beta) 1 n) hs) (difference_of (λ k. where_equal f.c k (pos 1) +ℤ where_equal f.d k (pos 1)) (λ k. where_equal f.a k f.alpha) 1 n hs
     ∙ ap (λ z. z -ℤ combination (ranged (λ k. where_equal f.a k f.alpha) 1 n) hs) (sum_of (λ k. where_equal f.c k (pos 1)) (λ k. where_equal f.d k (pos 1)) 1 n hs))
     ∙ (λ i. at f.c (pos 1) h.c i +ℤ at f.d (pos 1) h.d i -ℤ at f.a f.alpha h.a i -ℤ at f.b f.beta h.b i)
-    ∙ (λ i. unit (height hs f.c) i +ℤ unit (height hs f.d) i -ℤ f.alpha *ℤ height hs f.a -ℤ f.beta *ℤ height hs f.b)
+    ∙ (λ i. one_product (height hs f.c) i +ℤ one_product (height hs f.d) i -ℤ f.alpha *ℤ height hs f.a -ℤ f.beta *ℤ height hs f.b)
   where
     at : (p : ℕ) (z : ℤ) → (1 ≤ p) × (p ≤ n) → combination (ranged (λ k. where_equal p k z) 1 n) hs ≡ z *ℤ height hs p
     at p z l = single p z 1 n hs c l.0 (let a = l.1 in omega arith)
-
-    unit : (z : ℤ) → pos 1 *ℤ z ≡ z
-    unit z = ring (z ∷ []) (times (num (pos 1)) (var 0)) (var 0) refl
 
 -- ---- rising rows
 abbrev Rises : ℕ × ℤ → ℕ × ℤ → Type 0

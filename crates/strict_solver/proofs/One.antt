@@ -3,11 +3,11 @@ use Rattle.std.proofs.Common.{◌≡◌, ℕ, zero, suc, ◌+◌, ◌-◌, ◌*�
 use Rattle.std.specs.Int.{◌∣◌}
 use Rattle.std.proofs.Math.Nat.{dvd-mul_right}
 use Rattle.std.proofs.lemmas.Int.{unsigned_abs-mul}
-use Rattle.std.proofs.lemmas.List.{get_or-map, same_lists}
+use Rattle.std.proofs.lemmas.List.{get_or-map, same_lists, length-map}
 use Rattle.ntfe_model.specs.Solver.{Line, line_numbers, IsReduced}
 use Rattle.ntfe_nums.proofs.Ring.{ring}
 use Rattle.ntfe_nums.proofs.Ring.Expression.{var, minus, times}
-use Rattle.strict_solver.proofs.Forms.{length_mapped, pos_some, back}
+use Rattle.strict_solver.proofs.Forms.{pos_some, back}
 
 -- k and n in lowest terms a / b, and all solutions of k z = n z'
 pub record Lowest (k n : ℕ) : Type 0 where
@@ -90,7 +90,7 @@ module _ (raw r q : Line) (h : IsReduced raw r) (i : IsReduced raw q) where
   both = sym h.same ∙ i.same
 
   lengths : length (line_numbers r) ≡ length (line_numbers q)
-  lengths = sym (length_mapped (λ z. pos h.k *ℤ z) (line_numbers r)) ∙ ap length both ∙ length_mapped (λ z. pos i.k *ℤ z) (line_numbers q)
+  lengths = sym (length-map (line_numbers r) (λ z. pos h.k *ℤ z)) ∙ ap length both ∙ length-map (line_numbers q) (λ z. pos i.k *ℤ z)
 
   at_place : (k : ℕ) (d : ℤ) → k < length (line_numbers r) → pos h.k *ℤ get_or (line_numbers r) k d ≡ pos i.k *ℤ get_or (line_numbers q) k d
   at_place k d l =

@@ -1,5 +1,5 @@
 -- The grid of the start stands for the start's table.
-use Rattle.std.proofs.Common.{◌≡◌, ℕ, suc, ◌+◌, ◌-◌, ◌*◌, ◌<◌, ◌≤◌, ◌⊎◌, inl, inr, refl, sym, ap, ◌∙◌, subst, arith, ℤ, pos, ◌<ℤ◌, List, [], ◌++◌, map, length, get_or, replicate, mul-le-mul, unsigned_abs, Option, Some, None}
+use Rattle.std.proofs.Common.{◌≡◌, ℕ, suc, ◌+◌, ◌-◌, ◌*◌, ◌<◌, ◌≤◌, ◌⊎◌, inl, inr, refl, sym, ap, ◌∙◌, subst, arith, ℤ, pos, ◌<ℤ◌, List, [], ◌++◌, map, length, get_or, replicate, mul-le-mul, unsigned_abs, Some, None}
 use Rattle.std.specs.Prelude.{slice_get}
 use Rattle.std.specs.Int.{◌∣◌}
 use Rattle.std.specs.List.{range_with_len}
@@ -8,7 +8,7 @@ use Rattle.std.proofs.lemmas.List.{length-map, length-append, length-replicate, 
 use Rattle.std.proofs.Math.Nat.{eq-one_of_dvd-one}
 use Rattle.ntfe_model.specs.Certificates.{fold_coefficient}
 use Rattle.ntfe_model.specs.declared.nogood.Fold.{Fold}
-use Rattle.ntfe_model.specs.Solver.{Line, fold_row, start_line, start_table, line_numbers, line_or_nothing, first_wide, IsWideTable}
+use Rattle.ntfe_model.specs.Solver.{fold_row, start_line, start_table, line_numbers, line_or_nothing, first_wide, IsWideTable}
 use Rattle.strict_solver.specs.declared.place.Place.{Place}
 use Rattle.strict_solver.specs.declared.place.Place.TheVariants.{Row, Column}
 use Rattle.strict_solver.specs.declared.grid.Grid.{Grid}
@@ -21,7 +21,7 @@ use Rattle.strict_solver.proofs.Placing.{lines-length, line_there, coefficient_t
 use Rattle.strict_solver.proofs.Pivoting.{some_place}
 use Rattle.strict_solver.proofs.PlacingAll.{start_placing, which}
 use Rattle.strict_solver.proofs.Tables.{get_line, table_wide, line_narrow}
-use Rattle.strict_solver.proofs.Runs.{start_lines, start-get, start-at, start-length, after_row}
+use Rattle.strict_solver.proofs.Runs.{start_lines, start-at, start-length, after_row, start-none}
 use Rattle.strict_solver.proofs.Running.{grid_narrow}
 use Rattle.ntfe_model.proofs.Lists.{range_length, range_get}
 use Rattle.strict_solver.proofs.Starting.{fold_row-length}
@@ -65,14 +65,6 @@ module _ (n m : ℕ) (ps : List Place) (h : IsStartPlacing n m ps) where
           (let a = left_length in
           let b = right_length in
           get_or_default (map (number_at row) ps) k d (pos 0) l ∙ at k (omega arith) ∙ get_or_default (fold_row n f ++ replicate m (pos 0)) k (pos 0) d (omega arith)))
-
--- a height has no line at the start
-start-none : (n m : ℕ) (rs : List (List ℤ)) (z : ℕ) → z < n → get_or (start_lines n m rs) z None ≡ None
-start-none n m rs z l = by (get_or (start_lines n m rs) z None) refl
-  where
-    by : (o : Option Line) → get_or (start_lines n m rs) z None ≡ o → o ≡ None
-    by None e = refl
-    by (Some r) e = let h = start-get n m rs z r e in absurd (let a = h.1 in omega arith)
 
 one_low : (width : ℕ) (n : ℕ) (f : Fold) (row : List ℤ) → IsStartRow n f row → AreNarrow width row → IsLowRow width row
 one_low width n f row s narrow = record {

@@ -7,7 +7,7 @@ use Rattle.std.specs.Prelude.{find, slice_get, nat_le}
 use Rattle.std.specs.Option.{option_map_or}
 use Rattle.std.specs.Ordering.{int_eq}
 use Rattle.std.specs.List.{range_with_len}
-use Rattle.std.proofs.lemmas.Bool.Decides.{nat_tests}
+use Rattle.ntfe_nums.proofs.Comparisons.{not_le}
 use Rattle.ntfe_model.specs.Solver.{Line, Table, coefficient_at, start_table, first_slack, next_load, first_entering, moving, move_of, multipliers_of, IsPivot, IsScaling, IsFeasible, IsInfeasible}
 use Rattle.ntfe_model.specs.Solver.Move.{pivot, feasible, infeasible}
 use Rattle.strict_solver.specs.Continuing.{EndsWith, HasLoadedTo}
@@ -19,9 +19,6 @@ use Rattle.strict_solver.proofs.GoingOn.{run-append}
 pub find-none : (test : ℕ → Bool) (a n : ℕ) → ((j : ℕ) → a ≤ j → j < a + n → test j ≡ false) → find test (range_with_len a n) ≡ None
 find-none test a zero h = refl
 find-none test a (suc n) h = ap (λ b. cond b (Some a) (find test (range_with_len (a + 1) n))) (h a (omega arith) (omega arith)) ∙ find-none test (a + 1) n (λ j c l. h j (omega arith) (omega arith))
-
-not_le : (m n : ℕ) → n < m → nat_le m n ≡ false
-not_le m n h = grind (arith, nat_tests)
 
 no_slack : (columns : ℕ) (test : Line → Bool) (s : List (Option Line)) → length s ≤ columns → first_slack columns test s ≡ None
 no_slack columns test s l =

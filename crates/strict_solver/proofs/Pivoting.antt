@@ -9,7 +9,7 @@ use Rattle.std.proofs.lemmas.Int.{ints}
 use Rattle.std.proofs.lemmas.List.{length-map, get_or-map, same_lists, get_or_default}
 use Rattle.std.proofs.lemmas.Nat.Gcd.{dvd-zero}
 use Rattle.ntfe_nums.specs.Vectors.{sign}
-use Rattle.ntfe_nums.proofs.Ring.{product_zero, zero_product, one_product}
+use Rattle.ntfe_nums.proofs.Ring.{product_zero, zero_product, one_product, sum_zero}
 use Rattle.ntfe_model.specs.Solver.{line_numbers, coefficient_at, solved_for, with_put_in, IsReduced}
 use Rattle.strict_solver.specs.declared.place.Place.{Place}
 use Rattle.strict_solver.specs.declared.place.Place.TheVariants.{Row, Column}
@@ -18,7 +18,7 @@ use Rattle.strict_solver.specs.Grids.{IsPlacing}
 use Rattle.strict_solver.proofs.Rows.{number_past}
 use Rattle.strict_solver.proofs.Elimination.{from_place}
 use Rattle.strict_solver.proofs.Placing.{not_same, at_leaving, at_entering, at_others, somewhere, placing_after, coefficient_there}
-use Rattle.strict_solver.proofs.Pivots.{coefficient-put_in, length-zipped}
+use Rattle.strict_solver.proofs.Pivots.{coefficient-put_in, length-zipped, zero_terms}
 use Rattle.strict_solver.proofs.Steps.{sign_positive}
 use Rattle.ntfe_nums.proofs.Signs.{positive_product}
 
@@ -38,16 +38,8 @@ size_neg e = omega (arith, ints)
 
 -- ---- the solved row
 module _ (p : ℕ) (l2 : 2 ≤ p) (row new : List ℤ) (some : number row p ≢ pos 0) (h : IsSolvedRow row p new) where
-  abbrev Kind : ℕ → Type 0
-  Kind j = (j ≡ 0) ⊎ (j ≡ p) ⊎ ((j ≢ 0) × (j ≢ p))
-
   kinds : (j : ℕ) → (j ≡ 0) ⊎ (j ≡ p) ⊎ ((j ≢ 0) × (j ≢ p))
-  kinds j = by (let c : (j ≡ 0) ⊎ (j ≢ 0) = grind arith in c) (let c : (j ≡ p) ⊎ (j ≢ p) = grind arith in c)
-    where
-      by : (j ≡ 0) ⊎ (j ≢ 0) → (j ≡ p) ⊎ (j ≢ p) → (j ≡ 0) ⊎ (j ≡ p) ⊎ ((j ≢ 0) × (j ≢ p))
-      by (inl e) c = inl e
-      by (inr n) (inl e) = inr (inl e)
-      by (inr n) (inr m) = inr (inr (n, m))
+  kinds j = grind arith
 
   -- each number of the one row is as large as one of the other
   size_of_new : (j : ℕ) → (i : ℕ) × (unsigned_abs (number new j) ≡ unsigned_abs (number row i))
@@ -114,7 +106,7 @@ module _ (columns : ℕ) (places : List Place) (h : IsPlacing columns places) (x
     at_y = coefficient_there places row y (Column p) ey
 
     solved_at : (b : ℕ) → b < length places → get_or (solved_for (line_in places row) x y).coefficients b (pos 0) ≡ coefficient_at (line_in (set (set places x (Column p)) y (Row r)) new) b
-    solved_at b l = by (somewhere columns places h x y r p ex ey b)
+    solved_at b l = by (somewhere places x y r p ex ey b)
       where
         g : ℤ → ℤ
         g e = neg_ℤ (sign (coefficient_at (line_in places row) y) *ℤ e)
@@ -131,14 +123,14 @@ module _ (columns : ℕ) (places : List Place) (h : IsPlacing columns places) (x
             ∙ get_or-set_same (set (map (λ e. neg_ℤ (sign (coefficient_at (line_in places row) y) *ℤ e)) (map (number_at row) places)) y (pos 0)) x (sign (coefficient_at (line_in places row) y) *ℤ number row 0) (pos 0)
             (let a = x_within in let c = count_first in let d = length-set (map (λ e. neg_ℤ (sign (coefficient_at (line_in places row) y) *ℤ e)) (map (number_at row) places)) y (pos 0) in omega arith)
             ∙ ap (λ z. sign z *ℤ number row 0) at_y ∙ sym s.at
-            ∙ sym (coefficient_there (set (set places x (Column p)) y (Row r)) new x (Column p) (at_leaving columns places h x y r p ex ey))
+            ∙ sym (coefficient_there (set (set places x (Column p)) y (Row r)) new x (Column p) (at_leaving places x y r p ex ey))
             ∙ ap (coefficient_at (line_in (set (set places x (Column p)) y (Row r)) new)) (sym e)
         by (inr (inl e)) =
             ap (λ k. get_or (solved_for (line_in places row) x y).coefficients k (pos 0)) e
             ∙ get_or-set_other (set (map (λ e. neg_ℤ (sign (coefficient_at (line_in places row) y) *ℤ e)) (map (number_at row) places)) y (pos 0)) x y (sign (coefficient_at (line_in places row) y) *ℤ number row 0) (pos 0)
-            (λ f. not_same columns places h x y r p ex ey (sym f))
+            (λ f. not_same places x y r p ex ey (sym f))
             ∙ get_or-set_same (map (λ e. neg_ℤ (sign (coefficient_at (line_in places row) y) *ℤ e)) (map (number_at row) places)) y (pos 0) (pos 0) (let a = y_within in let c = count_first in omega arith)
-            ∙ sym (coefficient_there (set (set places x (Column p)) y (Row r)) new y (Row r) (at_entering columns places h x y r p ex ey))
+            ∙ sym (coefficient_there (set (set places x (Column p)) y (Row r)) new y (Row r) (at_entering places x y r p ex ey))
             ∙ ap (coefficient_at (line_in (set (set places x (Column p)) y (Row r)) new)) (sym e)
         by (inr (inr n)) =
             get_or-set_other (set (map (λ e. neg_ℤ (sign (coefficient_at (line_in places row) y) *ℤ e)) (map (number_at row) places)) y (pos 0)) x b (sign (coefficient_at (line_in places row) y) *ℤ number row 0) (pos 0) n.0
@@ -147,7 +139,7 @@ module _ (columns : ℕ) (places : List Place) (h : IsPlacing columns places) (x
             ∙ (let o = some_place places b l in
             ap (λ z. neg_ℤ (sign (coefficient_at (line_in places row) y) *ℤ z)) (coefficient_there places row b o.0 o.1)
             ∙ on o.0 o.1
-            ∙ sym (coefficient_there (set (set places x (Column p)) y (Row r)) new b o.0 (at_others columns places h x y r p ex ey b n.0 n.1 ∙ o.1)))
+            ∙ sym (coefficient_there (set (set places x (Column p)) y (Row r)) new b o.0 (at_others places x y r p ex ey b n.0 n.1 ∙ o.1)))
           where
             on : (o : Place) → slice_get places b ≡ Some o → neg_ℤ (sign (coefficient_at (line_in places row) y) *ℤ number_at row o) ≡ number_at new o
             on (Row q) e = ap neg_ℤ (product_zero (sign (coefficient_at (line_in places row) y)))
@@ -199,9 +191,6 @@ module _ (columns : ℕ) (places : List Place) (h : IsPlacing columns places) (x
     f_is : coefficient_at (line_in places q) y ≡ number q p
     f_is = coefficient_there places q y (Column p) ey
 
-    plain : (a : ℤ) → a +ℤ pos 0 ≡ a
-    plain a = omega (arith, ints)
-
     first_zero : number (set m 0 (pos 0)) 0 ≡ pos 0
     first_zero = get_or-set_same m 0 (pos 0) (pos 0) (omega arith)
 
@@ -217,17 +206,17 @@ module _ (columns : ℕ) (places : List Place) (h : IsPlacing columns places) (x
         (let a = length-map places (number_at q) in omega arith)
         (let a = length-map (set (set places x (Column p)) y (Row r)) (number_at m) in let d = after_length in omega arith)
         ∙ (λ i. get_or (set (map (number_at q) places) y (pos 0)) b (pos 0) *ℤ number m 0 +ℤ f_is i *ℤ coefficient_at (line_in (set (set places x (Column p)) y (Row r)) m) b)
-        ∙ by (somewhere columns places h x y r p ex ey b)
+        ∙ by (somewhere places x y r p ex ey b)
       where
         by : (b ≡ x) ⊎ (b ≡ y) ⊎ ((b ≢ x) × (b ≢ y)) → get_or (set (map (number_at q) places) y (pos 0)) b (pos 0) *ℤ number m 0 +ℤ number q p *ℤ coefficient_at (line_in (set (set places x (Column p)) y (Row r)) m) b
             ≡ pos c.k *ℤ coefficient_at (line_in (set (set places x (Column p)) y (Row r)) new) b
         by (inl e) =
             let own : get_or (set (map (number_at q) places) y (pos 0)) b (pos 0) ≡ pos 0 =
             ap (λ k. get_or (set (map (number_at q) places) y (pos 0)) k (pos 0)) e
-            ∙ get_or-set_other (map (number_at q) places) y x (pos 0) (pos 0) (not_same columns places h x y r p ex ey)
+            ∙ get_or-set_other (map (number_at q) places) y x (pos 0) (pos 0) (not_same places x y r p ex ey)
             ∙ coefficient_there places q x (Row r) ex in
             let here : (row : List ℤ) → coefficient_at (line_in (set (set places x (Column p)) y (Row r)) row) b ≡ number row p =
-            λ row. ap (coefficient_at (line_in (set (set places x (Column p)) y (Row r)) row)) e ∙ coefficient_there (set (set places x (Column p)) y (Row r)) row x (Column p) (at_leaving columns places h x y r p ex ey) in
+            λ row. ap (coefficient_at (line_in (set (set places x (Column p)) y (Row r)) row)) e ∙ coefficient_there (set (set places x (Column p)) y (Row r)) row x (Column p) (at_leaving places x y r p ex ey) in
             let gone : number (set q p (pos 0)) p ≡ pos 0 = get_or-set_same q p (pos 0) (pos 0) (let a = (h.columns_within y p ey).1 in omega arith) in
             let kept : number (set m 0 (pos 0)) p ≡ number m p = get_or-set_other m 0 p (pos 0) (pos 0) (λ g. let a = l2 in omega arith) in
             (λ i. own i *ℤ number m 0 +ℤ number q p *ℤ here m i)
@@ -238,17 +227,14 @@ module _ (columns : ℕ) (places : List Place) (h : IsPlacing columns places) (x
             ap (λ k. get_or (set (map (number_at q) places) y (pos 0)) k (pos 0)) e
             ∙ get_or-set_same (map (number_at q) places) y (pos 0) (pos 0) (let a = y_within in let d = length-map places (number_at q) in omega arith) in
             let here : (row : List ℤ) → coefficient_at (line_in (set (set places x (Column p)) y (Row r)) row) b ≡ pos 0 =
-            λ row. ap (coefficient_at (line_in (set (set places x (Column p)) y (Row r)) row)) e ∙ coefficient_there (set (set places x (Column p)) y (Row r)) row y (Row r) (at_entering columns places h x y r p ex ey) in
-            zeros _ _ own (here m) ∙ sym (ap (λ z. pos c.k *ℤ z) (here new) ∙ product_zero (pos c.k))
-          where
-            zeros : (a d : ℤ) → a ≡ pos 0 → d ≡ pos 0 → a *ℤ number m 0 +ℤ number q p *ℤ d ≡ pos 0
-            zeros a d e g = (λ i. e i *ℤ number m 0 +ℤ number q p *ℤ g i) ∙ (λ i. zero_product (number m 0) i +ℤ product_zero (number q p) i)
+            λ row. ap (coefficient_at (line_in (set (set places x (Column p)) y (Row r)) row)) e ∙ coefficient_there (set (set places x (Column p)) y (Row r)) row y (Row r) (at_entering places x y r p ex ey) in
+            zero_terms (number m 0) (number q p) _ _ own (here m) ∙ sym (ap (λ z. pos c.k *ℤ z) (here new) ∙ product_zero (pos c.k))
         by (inr (inr n)) =
             let o = some_place places b l in
             (λ i. (get_or-set_other (map (number_at q) places) y b (pos 0) (pos 0) n.1 ∙ coefficient_there places q b o.0 o.1) i *ℤ number m 0
-            +ℤ number q p *ℤ coefficient_there (set (set places x (Column p)) y (Row r)) m b o.0 (at_others columns places h x y r p ex ey b n.0 n.1 ∙ o.1) i)
+            +ℤ number q p *ℤ coefficient_there (set (set places x (Column p)) y (Row r)) m b o.0 (at_others places x y r p ex ey b n.0 n.1 ∙ o.1) i)
             ∙ on o.0 o.1
-            ∙ ap (λ z. pos c.k *ℤ z) (sym (coefficient_there (set (set places x (Column p)) y (Row r)) new b o.0 (at_others columns places h x y r p ex ey b n.0 n.1 ∙ o.1)))
+            ∙ ap (λ z. pos c.k *ℤ z) (sym (coefficient_there (set (set places x (Column p)) y (Row r)) new b o.0 (at_others places x y r p ex ey b n.0 n.1 ∙ o.1)))
           where
             on : (o : Place) → slice_get places b ≡ Some o → number_at q o *ℤ number m 0 +ℤ number q p *ℤ number_at m o ≡ pos c.k *ℤ number_at new o
             on (Row t) e = (λ i. zero_product (number m 0) i +ℤ product_zero (number q p) i) ∙ sym (product_zero (pos c.k))
@@ -256,7 +242,7 @@ module _ (columns : ℕ) (places : List Place) (h : IsPlacing columns places) (x
 
     first_is : number q 0 *ℤ number m 0 ≡ pos c.k *ℤ number new 0
     first_is =
-        sym (plain (number q 0 *ℤ number m 0))
+        sym (sum_zero (number q 0 *ℤ number m 0))
         ∙ ap (λ z. number q 0 *ℤ number m 0 +ℤ z) (sym (product_zero (number q p)))
         ∙ (λ i. sym (get_or-set_other q p 0 (pos 0) (pos 0) (λ g. let a = l2 in omega arith)) i *ℤ number m 0 +ℤ number q p *ℤ sym first_zero i)
         ∙ c.same 0

@@ -1,5 +1,5 @@
 -- Where the variables stand after a pivot, and the lines of a grid.
-use Rattle.std.proofs.Common.{◌≡◌, ◌≢◌, ℕ, zero, suc, ◌≤◌, ◌⊎◌, inl, inr, refl, sym, ap, ◌∙◌, subst, arith, ℤ, pos, ◌<ℤ◌, List, [], ◌∷◌, map, length, set, length-set, Option, Some, None}
+use Rattle.std.proofs.Common.{◌≡◌, ◌≢◌, ℕ, zero, suc, ◌⊎◌, inl, inr, refl, sym, ap, ◌∙◌, subst, arith, ℤ, pos, ◌<ℤ◌, List, [], ◌∷◌, map, length, set, length-set, Option, Some, None}
 use Rattle.std.specs.Prelude.{slice_get}
 use Rattle.std.proofs.lemmas.List.{length-map, get_or-map}
 use Rattle.ntfe_model.specs.Solver.{Line, coefficient_at}
@@ -23,16 +23,11 @@ set_elsewhere (z ∷ xs) zero (suc j) x n = refl
 set_elsewhere (z ∷ xs) (suc i) zero x n = refl
 set_elsewhere (z ∷ xs) (suc i) (suc j) x n = set_elsewhere xs i j x (λ e. n (ap suc e))
 
-abbrev row_number_of : Place → ℕ
-row_number_of (Row r) = r
-row_number_of (Column p) = 0
-
-abbrev column_of : Place → ℕ
-column_of (Row r) = 0
-column_of (Column p) = p
+pub same_column : (m n : ℕ) → Column m ≡ Column n → m ≡ n
+same_column m n e = cc
 
 -- ---- after a pivot
-module _ (columns : ℕ) (places : List Place) (h : IsPlacing columns places) (x y r p : ℕ) (ex : slice_get places x ≡ Some (Row r)) (ey : slice_get places y ≡ Some (Column p)) where
+module _ (places : List Place) (x y r p : ℕ) (ex : slice_get places x ≡ Some (Row r)) (ey : slice_get places y ≡ Some (Column p)) where
   pub not_same : x ≢ y
   not_same e = let P : ℕ → Type 0 = λ k. slice_get places k ≡ Some (Row r) in let f : Row r ≡ Column p = same_place places y _ _ (subst P e ex) ey in cc
 
@@ -45,16 +40,8 @@ module _ (columns : ℕ) (places : List Place) (h : IsPlacing columns places) (x
   pub at_others : (z : ℕ) → z ≢ x → z ≢ y → slice_get (set (set places x (Column p)) y (Row r)) z ≡ slice_get places z
   at_others z n m = set_elsewhere (set places x (Column p)) y z (Row r) m ∙ set_elsewhere places x z (Column p) n
 
-  abbrev Where : ℕ → Type 0
-  Where z = (z ≡ x) ⊎ (z ≡ y) ⊎ ((z ≢ x) × (z ≢ y))
-
   pub somewhere : (z : ℕ) → (z ≡ x) ⊎ (z ≡ y) ⊎ ((z ≢ x) × (z ≢ y))
-  somewhere z = by (let c : (z ≡ x) ⊎ (z ≢ x) = grind arith in c) (let c : (z ≡ y) ⊎ (z ≢ y) = grind arith in c)
-    where
-      by : (z ≡ x) ⊎ (z ≢ x) → (z ≡ y) ⊎ (z ≢ y) → (z ≡ x) ⊎ (z ≡ y) ⊎ ((z ≢ x) × (z ≢ y))
-      by (inl e) c = inl e
-      by (inr n) (inl e) = inr (inl e)
-      by (inr n) (inr m) = inr (inr (n, m))
+  somewhere z = grind arith
 
   -- what stands at a place after the pivot stood where it comes from
   pub came : (z : ℕ) (o : Place) → slice_get (set (set places x (Column p)) y (Row r)) z ≡ Some o
@@ -70,7 +57,7 @@ module _ (columns : ℕ) (places : List Place) (h : IsPlacing columns places) (x
   abbrev Source : ℕ → Place → Type 0
   Source z o = (u : ℕ) × (slice_get places u ≡ Some o) × (((z ≡ x) × (u ≡ y)) ⊎ ((z ≡ y) × (u ≡ x)) ⊎ ((z ≢ x) × (z ≢ y) × (u ≡ z)))
 
-  source : (z : ℕ) (o : Place) → slice_get (set (set places x (Column p)) y (Row r)) z ≡ Some o → (u : ℕ) × (slice_get places u ≡ Some o) × (((z ≡ x) × (u ≡ y)) ⊎ ((z ≡ y) × (u ≡ x)) ⊎ ((z ≢ x) × (z ≢ y) × (u ≡ z)))
+  pub source : (z : ℕ) (o : Place) → slice_get (set (set places x (Column p)) y (Row r)) z ≡ Some o → (u : ℕ) × (slice_get places u ≡ Some o) × (((z ≡ x) × (u ≡ y)) ⊎ ((z ≡ y) × (u ≡ x)) ⊎ ((z ≢ x) × (z ≢ y) × (u ≡ z)))
   source z o e = by (came z o e)
     where
       by : ((z ≡ x) × (o ≡ Column p)) ⊎ ((z ≡ y) × (o ≡ Row r)) ⊎ ((z ≢ x) × (z ≢ y) × (slice_get places z ≡ Some o))
@@ -90,25 +77,35 @@ module _ (columns : ℕ) (places : List Place) (h : IsPlacing columns places) (x
   back_to a b u (inr (inr f)) (inr (inl g)) = absurd (f.0 (sym f.2 ∙ g.1))
   back_to a b u (inr (inr f)) (inr (inr g)) = sym f.2 ∙ g.2
 
-  length_same : length (set (set places x (Column p)) y (Row r)) ≡ length places
-  length_same = length-set (set places x (Column p)) y (Row r) ∙ length-set places x (Column p)
+  -- what stood at one place alone stands at one place after
+  pub apart_after : (o : Place) → ((u v : ℕ) → slice_get places u ≡ Some o → slice_get places v ≡ Some o → u ≡ v) → (u v : ℕ) → slice_get (set (set places x (Column p)) y (Row r)) u ≡ Some o
+      → slice_get (set (set places x (Column p)) y (Row r)) v ≡ Some o → u ≡ v
+  apart_after o h u v e f =
+      let s = source u o e in
+      let t = source v o f in
+      let P : ℕ → Type 0 = λ k. ((u ≡ x) × (k ≡ y)) ⊎ ((u ≡ y) × (k ≡ x)) ⊎ ((u ≢ x) × (u ≢ y) × (k ≡ u)) in
+      back_to u v t.0 (subst P (h s.0 t.0 s.1 t.1) s.2) t.2
 
-  pub placing_after : IsPlacing columns (set (set places x (Column p)) y (Row r))
-  placing_after = record {
-    count = (let a = h.count in let b = length_same in omega arith);
-    rows_within = λ v q e. (let s = source v (Row q) e in let a = h.rows_within s.0 q s.1 in let b = length_same in omega arith);
-    columns_within = λ v q e. (let s = source v (Column q) e in h.columns_within s.0 q s.1);
-    apart = λ u v o e f. (let s = source u o e in let t = source v o f in let g = h.apart s.0 t.0 o s.1 t.1 in back_to u v t.0 (moved u s.0 t.0 g s.2) t.2);
-    taken = λ q l m. (let t = h.taken q l m in goes q t.0 t.1 (somewhere t.0));
-  }
+  -- a column is not lost
+  pub column_after : (q v : ℕ) → slice_get places v ≡ Some (Column q) → (u : ℕ) × (slice_get (set (set places x (Column p)) y (Row r)) u ≡ Some (Column q))
+  column_after q v e = by (somewhere v)
     where
-      moved : (a u v : ℕ) → u ≡ v → ((a ≡ x) × (u ≡ y)) ⊎ ((a ≡ y) × (u ≡ x)) ⊎ ((a ≢ x) × (a ≢ y) × (u ≡ a)) → ((a ≡ x) × (v ≡ y)) ⊎ ((a ≡ y) × (v ≡ x)) ⊎ ((a ≢ x) × (a ≢ y) × (v ≡ a))
-      moved a u v e s = let P : ℕ → Type 0 = λ k. ((a ≡ x) × (k ≡ y)) ⊎ ((a ≡ y) × (k ≡ x)) ⊎ ((a ≢ x) × (a ≢ y) × (k ≡ a)) in subst P e s
+      by : (v ≡ x) ⊎ (v ≡ y) ⊎ ((v ≢ x) × (v ≢ y)) → (u : ℕ) × (slice_get (set (set places x (Column p)) y (Row r)) u ≡ Some (Column q))
+      by (inl f) = let g : Row r ≡ Column q = same_place places x _ _ ex (subst (λ k. slice_get places k ≡ Some (Column q)) f e) in cc
+      by (inr (inl f)) = let g : Column p ≡ Column q = same_place places y _ _ ey (subst (λ k. slice_get places k ≡ Some (Column q)) f e) in (x, at_leaving ∙ ap Some g)
+      by (inr (inr n)) = (v, at_others v n.0 n.1 ∙ e)
 
-      goes : (q v : ℕ) → slice_get places v ≡ Some (Column q) → (v ≡ x) ⊎ (v ≡ y) ⊎ ((v ≢ x) × (v ≢ y)) → (u : ℕ) × (slice_get (set (set places x (Column p)) y (Row r)) u ≡ Some (Column q))
-      goes q v e (inl f) = let g : Row r ≡ Column q = same_place places x _ _ ex (subst (λ k. slice_get places k ≡ Some (Column q)) f e) in cc
-      goes q v e (inr (inl f)) = let g : Column p ≡ Column q = same_place places y _ _ ey (subst (λ k. slice_get places k ≡ Some (Column q)) f e) in (x, at_leaving ∙ ap Some g)
-      goes q v e (inr (inr n)) = (v, at_others v n.0 n.1 ∙ e)
+pub placing_after : (columns : ℕ) (places : List Place) (h : IsPlacing columns places) (x y r p : ℕ) → slice_get places x ≡ Some (Row r) → slice_get places y ≡ Some (Column p) → IsPlacing columns (set (set places x (Column p)) y (Row r))
+placing_after columns places h x y r p ex ey = record {
+  count = (let a = h.count in let b = length_same in omega arith);
+  rows_within = λ v q e. (let s = source places x y r p ex ey v (Row q) e in let a = h.rows_within s.0 q s.1 in let b = length_same in omega arith);
+  columns_within = λ v q e. (let s = source places x y r p ex ey v (Column q) e in h.columns_within s.0 q s.1);
+  apart = λ u v o. apart_after places x y r p ex ey o (λ a b. h.apart a b o) u v;
+  taken = λ q l m. (let t = h.taken q l m in column_after places x y r p ex ey q t.0 t.1);
+}
+  where
+    length_same : length (set (set places x (Column p)) y (Row r)) ≡ length places
+    length_same = length-set (set places x (Column p)) y (Row r) ∙ length-set places x (Column p)
 
 -- ---- the lines of a grid
 pub lines-length : (s : ℕ) (places : List Place) (cells : List ℤ) → length (lines_by s places cells) ≡ length places
@@ -154,11 +151,6 @@ pub coefficient_there : (places : List Place) (row : List ℤ) (v : ℕ) (o : Pl
 coefficient_there places row v o e =
     let h = from_place places v o o e in
     get_or-map (number_at row) places v o (pos 0) h.0 ∙ ap (number_at row) h.1
-
-coefficient_past : (places : List Place) (row : List ℤ) (v : ℕ) → length places ≤ v → coefficient_at (line_in places row) v ≡ pos 0
-coefficient_past [] row v l = refl
-coefficient_past (o ∷ places) row zero l = absurd (omega arith)
-coefficient_past (o ∷ places) row (suc v) l = coefficient_past places row v (omega arith)
 
 -- each row of the table is a row of it
 pub lines-table : (s : ℕ) (places : List Place) (cells : List ℤ) → ((v r : ℕ) → slice_get places v ≡ Some (Row r) → pos 0 <ℤ number (row_at s cells r) 0) → IsTable (lines_by s places cells)

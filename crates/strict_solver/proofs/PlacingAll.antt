@@ -1,5 +1,5 @@
 -- The places of the start, one after the other.
-use Rattle.std.proofs.Common.{◌≡◌, ℕ, zero, suc, ◌+◌, ◌-◌, ◌<◌, ◌≤◌, ◌⊎◌, inl, inr, refl, sym, ap, ◌∙◌, arith, List, [], ◌∷◌, ◌++◌, length, Some}
+use Rattle.std.proofs.Common.{◌≡◌, ℕ, ◌+◌, ◌-◌, ◌<◌, ◌≤◌, ◌⊎◌, inl, inr, sym, ap, ◌∙◌, arith, List, length, Some}
 use Rattle.std.specs.Prelude.{slice_get, vec_capacity}
 use Rattle.strict_solver.specs.declared.place.Place.{Place}
 use Rattle.strict_solver.specs.declared.place.Place.TheVariants.{Row, Column}
@@ -15,47 +15,6 @@ pub record IsPlacedTo (old now : Grid) (n m : ℕ) : Type 0 where
   pub scratch : now.scratch ≡ old.scratch
   pub capacity : vec_capacity now.places ≡ vec_capacity old.places
   pub places : IsStartPlacing n m now.places.items
-
-push_there : {X : Type 0} (xs : List X) (y : X) (i : ℕ) → i ≡ length xs → slice_get (xs ++ y ∷ []) i ≡ Some y
-push_there [] y zero e = refl
-push_there [] y (suc i) e = absurd (omega arith)
-push_there (x ∷ xs) y zero e = absurd (omega arith)
-push_there (x ∷ xs) y (suc i) e = push_there xs y i (omega arith)
-
-push_before : {X : Type 0} (xs : List X) (y x : X) (i : ℕ) → slice_get xs i ≡ Some x → slice_get (xs ++ y ∷ []) i ≡ Some x
-push_before [] y x i e = cc
-push_before (z ∷ xs) y x zero e = e
-push_before (z ∷ xs) y x (suc i) e = push_before xs y x i e
-
-push_count : {X : Type 0} (xs : List X) (y : X) → length (xs ++ y ∷ []) ≡ length xs + 1
-push_count [] y = refl
-push_count (x ∷ xs) y = let h = push_count xs y in omega arith
-
-pub nothing_placed : (ps : List Place) → ps ≡ [] → IsStartPlacing 0 0 ps
-nothing_placed [] e = record { count = omega arith; heights = λ k l. absurd (omega arith); slacks = λ r l. absurd (omega arith) }
-nothing_placed (p ∷ ps) e = cc
-
-pub push_height : (k : ℕ) (ps : List Place) → IsStartPlacing k 0 ps → IsStartPlacing (k + 1) 0 (ps ++ Column (k + 2) ∷ [])
-push_height k ps h = record {
-  count = (let c = push_count ps (Column (k + 2)) in let d = h.count in omega arith);
-  heights = λ j l. at j (let c : (j < k) ⊎ (j ≡ k) = grind arith in c);
-  slacks = λ r l. absurd (omega arith);
-}
-  where
-    at : (j : ℕ) → (j < k) ⊎ (j ≡ k) → slice_get (ps ++ Column (k + 2) ∷ []) j ≡ Some (Column (j + 2))
-    at j (inl l) = push_before ps (Column (k + 2)) (Column (j + 2)) j (h.heights j l)
-    at j (inr e) = push_there ps (Column (k + 2)) j (let d = h.count in omega arith) ∙ ap (λ n. Some (Column (n + 2))) (sym e)
-
-pub push_slack : (n r : ℕ) (ps : List Place) → IsStartPlacing n r ps → IsStartPlacing n (r + 1) (ps ++ Row r ∷ [])
-push_slack n r ps h = record {
-  count = (let c = push_count ps (Row r) in let d = h.count in omega arith);
-  heights = λ k l. push_before ps (Row r) (Column (k + 2)) k (h.heights k l);
-  slacks = λ j l. at j (let c : (j < r) ⊎ (j ≡ r) = grind arith in c);
-}
-  where
-    at : (j : ℕ) → (j < r) ⊎ (j ≡ r) → slice_get (ps ++ Row r ∷ []) (n + j) ≡ Some (Row j)
-    at j (inl l) = push_before ps (Row r) (Row j) (n + j) (h.slacks j l)
-    at j (inr e) = push_there ps (Row r) (n + j) (let d = h.count in omega arith) ∙ ap (λ k. Some (Row k)) (sym e)
 
 -- ---- such places are a placing
 module _ (n m : ℕ) (ps : List Place) (h : IsStartPlacing n m ps) where

@@ -1,11 +1,10 @@
 -- Numbers of a row, and 0 past its end.
-use Rattle.std.proofs.Common.{◌≡◌, ℕ, suc, ◌+◌, ◌/◌, ◌^◌, ◌<◌, ◌≤◌, ◌⊎◌, inl, inr, refl, sym, ap, ◌∙◌, subst, arith, pow_mono, ℤ, pos, negsuc, ◌*ℤ◌, ◌<ℤ◌, neg_ℤ, List, [], ◌∷◌, length, set, get_or-set_same, get_or-set_other, unsigned_abs, to_z, of_z, w64}
+use Rattle.std.proofs.Common.{◌≡◌, ℕ, suc, ◌+◌, ◌/◌, ◌^◌, ◌<◌, ◌≤◌, ◌⊎◌, inl, inr, sym, ap, ◌∙◌, subst, arith, pow_mono, ℤ, pos, negsuc, ◌*ℤ◌, ◌<ℤ◌, neg_ℤ, List, length, set, get_or-set_same, get_or-set_other, unsigned_abs, to_z, of_z, w64}
 use Rattle.std.specs.Int.{◌∣◌}
 use Rattle.std.specs.Int.Signed.{quot_z}
 use Rattle.std.proofs.lemmas.Int.{ints}
 use Rattle.std.proofs.Math.Nat.{mul-div_cancel'}
-use Rattle.ntfe_nums.proofs.Ring.{ring}
-use Rattle.ntfe_nums.proofs.Ring.Expression.{var, times, neg}
+use Rattle.ntfe_nums.proofs.Ring.{product_neg}
 use Rattle.std.specs.Int.{w128}
 use Rattle.ntfe_nums.proofs.Machine.{back}
 use Rattle.std.proofs.lemmas.Nat.{pow_pos}
@@ -55,10 +54,7 @@ set_rest out k z P above j m = subst (P j) (sym (get_or-set_other out k j z (pos
 -- ---- quotients without a remainder
 pub exact_quotient : (d z : ℤ) → pos 0 <ℤ d → unsigned_abs d ∣ unsigned_abs z → d *ℤ quot_z z d ≡ z
 exact_quotient (pos d) (pos z) p h = ap pos (mul-div_cancel' d h)
-exact_quotient (pos d) (negsuc z) p h = neg_right (pos d) (pos (suc z / d)) ∙ ap (λ n. neg_ℤ (pos n)) (mul-div_cancel' d h)
-  where
-    neg_right : (a b : ℤ) → a *ℤ neg_ℤ b ≡ neg_ℤ (a *ℤ b)
-    neg_right a b = ring (a ∷ b ∷ []) (times (var 0) (neg (var 1))) (neg (times (var 0) (var 1))) refl
+exact_quotient (pos d) (negsuc z) p h = product_neg (pos d) (pos (suc z / d)) ∙ ap (λ n. neg_ℤ (pos n)) (mul-div_cancel' d h)
 exact_quotient (negsuc d) z p h = absurd (omega (arith, ints))
 
 -- ---- widths

@@ -1,5 +1,5 @@
 -- One more pivot of a run.
-use Rattle.std.proofs.Common.{◌≡◌, ℕ, zero, suc, ◌+◌, ◌-◌, ◌^◌, ◌<◌, ◌≤◌, ◌⊎◌, inl, inr, min, not, refl, sym, ap, ◌∙◌, subst, arith, ℤ, pos, List, [], ◌∷◌, ◌++◌, length, get_or, Option, Some, None}
+use Rattle.std.proofs.Common.{◌≡◌, ℕ, zero, suc, ◌+◌, ◌-◌, ◌^◌, ◌<◌, ◌≤◌, ◌⊎◌, inl, inr, min, not, refl, sym, ap, ◌∙◌, subst, arith, ℤ, pos, List, [], ◌∷◌, ◌++◌, length, get_or, Option, Some, None, length-append}
 use Rattle.std.specs.Prelude.{slice_get, flat_map}
 use Rattle.std.specs.Option.{option_map_or}
 use Rattle.std.specs.Ordering.{int_eq}
@@ -23,6 +23,7 @@ use Rattle.strict_solver.proofs.Steps.{step_lines, step-is, move-pivotable, move
 use Rattle.strict_solver.proofs.Tables.{get_line, line_narrow, table_narrow}
 use Rattle.std.proofs.lemmas.List.{get_or_past}
 use Rattle.strict_solver.proofs.Entries.{slice_none}
+use Rattle.ntfe_model.proofs.Lists.{some_once}
 
 -- ---- the table of a grid
 pub grid_table : (width : ℕ) (g : Grid) → IsGrid width g → IsTable (lines_of g)
@@ -63,10 +64,6 @@ run-last : (columns : ℕ) (s : Table) (ts : List Table) (t : Table) → IsRun c
 run-last columns s [] t m = ap Some m
 run-last columns s (r ∷ ts) t m = run-last columns r ts t m.1
 
-push-length : (ts : List Table) (u : Table) → length (ts ++ u ∷ []) ≡ length ts + 1
-push-length [] u = refl
-push-length (t ∷ ts) u = let h = push-length ts u in omega arith
-
 front_of : (ts : List Table) (u : Table) (k : ℕ) → k < length ts → slice_get (ts ++ u ∷ []) k ≡ slice_get ts k
 front_of [] u k l = absurd (omega arith)
 front_of (t ∷ ts) u zero l = refl
@@ -76,7 +73,7 @@ module _ (columns width : ℕ) (rs : List (List ℤ)) (steps : ℕ) (t u : Table
   pub reaches_more : Reaches columns rs (Some width) (steps + 1) u
   reaches_more = record {
     tables = r.tables ++ u ∷ [];
-    count = push-length r.tables u ∙ ap (λ n. n + 1) r.count;
+    count = length-append r.tables (u ∷ []) ∙ ap (λ n. n + 1) r.count;
     run = run-push columns (start_table columns rs) r.tables t u r.run k;
     narrow = λ j s l e. at j s e (let c : (j < steps) ⊎ (j ≡ steps) = grind arith in c);
   }
@@ -88,12 +85,9 @@ module _ (columns width : ℕ) (rs : List (List ℤ)) (steps : ℕ) (t u : Table
           let g : slice_get (start_table columns rs ∷ r.tables) (length r.tables) ≡ Some t = run-last columns (start_table columns rs) r.tables t r.run in
           let P : ℕ → Type 0 = λ n. slice_get (start_table columns rs ∷ r.tables) n ≡ Some s in
           let h : slice_get (start_table columns rs ∷ r.tables) (length r.tables) ≡ Some s = subst P (f ∙ sym c) (sym (front_of (start_table columns rs ∷ r.tables) u j (omega arith)) ∙ e) in
-          let i : t ≡ s = same t s (sym g ∙ h) in
+          let i : t ≡ s = some_once t s (sym g ∙ h) in
           let Q : Table → Type 0 = λ q. first_wide width (flat_map line_or_nothing q.lines) ≡ None in
           subst Q i narrow
-        where
-          same : (a b : Table) → Some a ≡ Some b → a ≡ b
-          same a b e = cc
 
 -- what is shown of one more step
 pub shown_more : (step steps next : ℕ) → step ≡ shown_step steps → next ≡ min (step + 1) (2 ^ 64 - 1) → next ≡ shown_step (steps + 1)

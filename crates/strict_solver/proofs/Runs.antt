@@ -1,15 +1,14 @@
 -- The start of the stated solver, what is loaded along a run, and runs of moves.
 --     AreRows columns rs       each row has a coefficient for each height
 --     start-is_table, run-loading, end-loaded      the rows' form and what loading leaves hold at the end of each run
---     run_no_return            in the moving no set of basic variables comes again
 use Rattle.std.proofs.Common.{◌≡◌, ◌≢◌, ℕ, zero, suc, ◌+◌, ◌<◌, ◌≤◌, ◌⊎◌, inl, inr, refl, sym, ap, ◌∙◌, subst, arith, ℤ, pos, List, [], ◌∷◌, ◌++◌, map, replicate, length, get_or, Some, None, Option}
 use Rattle.std.proofs.lemmas.Int.{ints}
 use Rattle.std.specs.List.{range_with_len}
 use Rattle.ntfe_model.specs.Solver.{Line, Table, Move, start_line, start_table, next_load, moving, IsStepOf, IsRun}
-use Rattle.strict_solver.proofs.Pivots.{IsLineOf, IsTable, pivot-table, pivot-gone, pivot-kept, pivot-new}
+use Rattle.strict_solver.proofs.Pivots.{IsLineOf, IsTable, pivot-table, pivot-gone, pivot-before, pivot-new}
 use Rattle.strict_solver.proofs.Moves.{IsGone, IsIn, IsLoad, next_load-found, no_next_load, move_of-pivot, moving-pivot, first_slack-found}
-use Rattle.strict_solver.proofs.Bland.{IsMovingStep, IsMoving, IsLoaded, IsBasic, no_return}
-use Rattle.strict_solver.proofs.Entries.{basic_or_not, not_both, line_or}
+use Rattle.strict_solver.proofs.Bland.{IsMovingStep, IsMoving, IsLoaded}
+use Rattle.strict_solver.proofs.Entries.{not_both, line_or}
 
 abbrev pub AreRows : ℕ → List (List ℤ) → Type 0
 AreRows columns rs = (j : ℕ) → j < length rs → length (get_or rs j []) ≡ columns
@@ -32,6 +31,11 @@ start-at zero n (q ∷ rs) (suc z) zero e h = absurd (omega arith)
 start-at zero n (q ∷ rs) (suc z) (suc j) e h = start-at zero n rs z j (omega arith) (omega arith)
 start-at (suc columns) n rs zero j e h = absurd (omega arith)
 start-at (suc columns) n rs (suc z) j e h = start-at columns n rs z j (omega arith) h
+
+pub start-none : (columns n : ℕ) (rs : List (List ℤ)) (z : ℕ) → z < columns → get_or (start_lines columns n rs) z None ≡ None
+start-none zero n rs z l = absurd (omega arith)
+start-none (suc columns) n rs zero l = refl
+start-none (suc columns) n rs (suc z) l = start-none columns n rs z (omega arith)
 
 pub start-length : (columns n : ℕ) (rs : List (List ℤ)) → length (start_lines columns n rs) ≡ columns + length rs
 start-length zero n [] = refl
@@ -85,11 +89,7 @@ step-loading columns s t m w c l k h e = by (move_of-pivot columns s m.0 m.1 t.t
     apart i = let P : ℕ → Type 0 = λ z. get_or t.lines z None ≡ None in not_both _ m.3.new (pivot-new m.0 m.1 s.lines t.lines m.3) (subst P i e)
 
     empty : columns ≤ m.0 → get_or s.lines k None ≡ None
-    empty a = at (basic_or_not (get_or s.lines k None))
-      where
-        at : ((q : Line) × (get_or s.lines k None ≡ Some q)) ⊎ (get_or s.lines k None ≡ None) → get_or s.lines k None ≡ None
-        at (inl g) = let n = pivot-kept m.0 m.1 s.lines t.lines m.3 k g.0 g.1 (λ i. omega arith) in absurd (not_both _ n.0 n.1 e)
-        at (inr g) = g
+    empty a = pivot-before m.0 m.1 s.lines t.lines m.3 k e (λ i. omega arith)
 
     goes : columns ≤ m.0 → IsGone columns s.lines k → IsGone columns t.lines k
     goes a g = pivot-gone m.0 m.1 s.lines t.lines m.3 w columns k h a apart (omega arith) g
@@ -153,9 +153,3 @@ run-moving columns bound s (r ∷ ts) t m n b =
     let P : ℕ → Type 0 = λ j. IsMovingStep columns j s.lines r.lines in
     let Q : List ℕ → Type 0 = λ l. next_load columns r.lines l ≡ None in
     (subst P (sym b) k.0, run-moving columns bound r ts t m.1 (subst Q (sym k.1) refl) (b ∙ sym m.0.3.length_same))
-
--- after the loading no set of basic variables comes again
-pub run_no_return : (columns : ℕ) (s r : Table) (rs : List Table) (t : Table) → IsTable s.lines → columns ≤ length s.lines → IsLoading columns s → next_load columns s.lines s.to_load ≡ None
-    → IsRun columns s (r ∷ rs) t → ((z : ℕ) → IsBasic s.lines z → IsBasic t.lines z) → ((z : ℕ) → IsBasic t.lines z → IsBasic s.lines z) → ⊥
-run_no_return columns s r rs t w c l n m to from =
-    no_return columns (length s.lines) s.lines r.lines (lines_of rs) t.lines w c (end-loaded columns s l n) (run-moving columns (length s.lines) s (r ∷ rs) t m n refl) to from

@@ -1,8 +1,7 @@
 -- The heights of a feasible answer are determined, and the multipliers of an infeasible one are positive.
-use Rattle.std.proofs.Common.{◌≡◌, ◌≢◌, ℕ, zero, suc, ◌+◌, ◌-◌, ◌<◌, ◌≤◌, ◌==◌, ◌⊎◌, inl, inr, Bool, true, false, cond, refl, sym, ap, ◌∙◌, subst, arith, ℤ, pos, ◌*ℤ◌, ◌<ℤ◌, int_lt, unsigned_abs, List, [], ◌∷◌, map, filter, length, get_or, Some, None, Option}
+use Rattle.std.proofs.Common.{◌≡◌, ℕ, zero, suc, ◌+◌, ◌-◌, ◌<◌, ◌≤◌, ◌==◌, ◌⊎◌, inl, inr, Bool, true, false, cond, refl, sym, ap, ◌∙◌, subst, arith, ℤ, pos, ◌*ℤ◌, ◌<ℤ◌, int_lt, unsigned_abs, List, [], ◌∷◌, map, filter, length, get_or, Some, None, Option}
 use Rattle.std.specs.Prelude.{All}
 use Rattle.std.specs.List.{range_with_len}
-use Rattle.std.proofs.lemmas.Bool.Decides.{nat_tests}
 use Rattle.std.proofs.lemmas.List.{get_or_default, same_lists}
 use Rattle.ntfe_model.specs.Solver.{Line, Table, start_table, last_scale, coefficient_at, multiplier_at, IsScale, IsScaled, IsScaling, IsFeasible, IsInfeasible}
 use Rattle.ntfe_nums.proofs.Ring.{ring}
@@ -14,6 +13,7 @@ use Rattle.strict_solver.proofs.Runs.{AreRows, start-is_table, start-length}
 use Rattle.strict_solver.proofs.Agree.{runs_agree, feasible-end}
 use Rattle.ntfe_nums.proofs.Signs.{positive_some}
 use Rattle.strict_solver.proofs.Searches.{above_passes}
+use Rattle.ntfe_nums.proofs.Comparisons.{other_from_test}
 
 scale_same : (s : List (Option Line)) (m n : ℕ) → IsScale s m → IsScale s n → m ≡ n
 scale_same s m n h i = let a = h.least n i.positive i.whole in let b = i.least m h.positive h.whole in omega arith
@@ -52,9 +52,6 @@ heights_same columns rs v w hs is r f g =
     f.scaling (subst P (sym h.1) g.scaling)).1
 
 -- ---- multipliers
-abbrev IsEntry : ℕ → ℕ × ℤ → Type 0
-IsEntry n e = (e.0 < n) × (pos 0 <ℤ e.1)
-
 entries : (m : ℕ → ℤ) (b a n : ℕ) → a + n ≤ b → All (λ (e : ℕ × ℤ). (e.0 < b) × (pos 0 <ℤ e.1)) (filter (λ e. int_lt (pos 0) e.1) (map (λ j. (j, m j)) (range_with_len a n)))
 entries m b a zero h = λ k d l. absurd (omega arith)
 entries m b a (suc n) h = by (int_lt (pos 0) (m a)) refl (filter (λ e. int_lt (pos 0) e.1) (map (λ j. (j, m j)) (range_with_len (a + 1) n))) (entries m b (a + 1) n (omega arith))
@@ -99,7 +96,4 @@ infeasible-some columns rs width ms w f =
   where
     own : (x : ℕ) → columns + x ≡ f.slack → pos 0 <ℤ f.row.d → (b : Bool) → (columns + x == f.slack) ≡ b → pos 0 <ℤ cond b f.row.d (pos (unsigned_abs (coefficient_at f.row (columns + x))))
     own x e p true g = p
-    own x e p false g = absurd (same_false (columns + x) f.slack g e)
-      where
-        same_false : (m n : ℕ) → (m == n) ≡ false → m ≢ n
-        same_false m n h i = grind (arith, nat_tests)
+    own x e p false g = absurd (other_from_test (columns + x) f.slack g e)

@@ -1,10 +1,9 @@
 -- The scaling of a table.
-use Rattle.std.proofs.Common.{◌≡◌, ℕ, zero, suc, ◌+◌, ◌*◌, ◌^◌, ◌<◌, ◌≤◌, ◌⊎◌, inl, inr, true, false, refl, sym, ap, ◌∙◌, subst, arith, ℤ, pos, ◌*ℤ◌, ◌<ℤ◌, List, [], ◌∷◌, map, take, length, get_or, unsigned_abs, nat_le, Option, Some, None}
+use Rattle.std.proofs.Common.{◌≡◌, ℕ, zero, suc, ◌+◌, ◌*◌, ◌^◌, ◌<◌, ◌≤◌, ◌⊎◌, inl, inr, refl, sym, ap, ◌∙◌, subst, arith, ℤ, pos, ◌*ℤ◌, ◌<ℤ◌, List, [], ◌∷◌, map, take, length, get_or, unsigned_abs, Option, Some, None}
 use Rattle.std.specs.Prelude.{slice_get}
 use Rattle.std.specs.Int.{◌∣◌}
 use Rattle.std.specs.List.{range_with_len}
 use Rattle.std.proofs.lemmas.Int.{unsigned_abs-mul}
-use Rattle.std.proofs.lemmas.Bool.Decides.{nat_tests}
 use Rattle.std.proofs.lemmas.List.{length-map, get_or-map}
 use Rattle.std.proofs.lemmas.Nat.Gcd.{dvd_trans, le_of_dvd}
 use Rattle.std.proofs.Math.Nat.{dvd-mul_right, mul-dvd-mul_right}
@@ -15,7 +14,9 @@ use Rattle.strict_solver.proofs.Pivots.{IsTable}
 use Rattle.strict_solver.proofs.Wide.{wide_first, narrow_first}
 use Rattle.strict_solver.proofs.Denominators.{reduced_positive, whole_when, whole_only, multiple_first, multiple_second, multiple_least, multiple_positive}
 use Rattle.ntfe_model.proofs.Lists.{range_length, range_get}
+use Rattle.ntfe_nums.proofs.Comparisons.{not_le}
 use Rattle.ntfe_nums.proofs.Signs.{some_size}
+use Rattle.strict_solver.proofs.Moves.{le_true}
 
 pub scale_start : (ls : List (Option Line)) → scale_to ls 0 ≡ 1
 unfolding scale_to
@@ -145,11 +146,5 @@ scaling_is columns ls w = record {
 -- ---- the first wide number of a list by its places
 pub wide_at : (width : ℕ) (zs : List ℤ) (k : ℕ) → k < length zs → ((i : ℕ) → i < k → unsigned_abs (get_or zs i (pos 0)) < 2 ^ width) → 2 ^ width ≤ unsigned_abs (get_or zs k (pos 0)) → first_wide width zs ≡ Some (get_or zs k (pos 0))
 wide_at width [] k l h w = absurd (omega arith)
-wide_at width (z ∷ zs) zero l h w = wide_first width z zs (passes (2 ^ width) (unsigned_abs z) w)
-  where
-    passes : (m n : ℕ) → m ≤ n → nat_le m n ≡ true
-    passes m n i = grind (arith, nat_tests)
-wide_at width (z ∷ zs) (suc k) l h w = narrow_first width z zs (fails (2 ^ width) (unsigned_abs z) (h 0 (omega arith))) ∙ wide_at width zs k (omega arith) (λ i j. h (suc i) (omega arith)) w
-  where
-    fails : (m n : ℕ) → n < m → nat_le m n ≡ false
-    fails m n i = grind (arith, nat_tests)
+wide_at width (z ∷ zs) zero l h w = wide_first width z zs (le_true (2 ^ width) (unsigned_abs z) w)
+wide_at width (z ∷ zs) (suc k) l h w = narrow_first width z zs (not_le (2 ^ width) (unsigned_abs z) (h 0 (omega arith))) ∙ wide_at width zs k (omega arith) (λ i j. h (suc i) (omega arith)) w

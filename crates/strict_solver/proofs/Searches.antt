@@ -16,7 +16,7 @@ use Rattle.strict_solver.proofs.Pivoting.{some_place}
 use Rattle.strict_solver.proofs.Tables.{get_line}
 use Rattle.ntfe_nums.proofs.Comparisons.{zero_fails}
 use Rattle.strict_solver.proofs.Path.{find-none}
-use Rattle.strict_solver.proofs.Moves.{le_true}
+use Rattle.strict_solver.proofs.Moves.{le_true, no_test, no_second}
 
 -- ---- a search of the numbers below n
 found_from : (test : ℕ → Bool) (a n x : ℕ) → test x ≡ true → ((j : ℕ) → a ≤ j → j < x → test j ≡ false) → a ≤ x → x < a + n → find test (range_with_len a n) ≡ Some x
@@ -53,10 +53,6 @@ pub slack_line : (columns : ℕ) (test : Line → Bool) (stride : ℕ) (places :
 slack_line columns test stride places cells x r h e =
     ap (λ b. b && option_map_or test (get_or (lines_by stride places cells) x None) false) (le_true columns x h)
     ∙ ap (λ o. option_map_or test o false) (get_line _ x _ (line_there stride places cells x (Row r) e))
-
-no_test : (b : Bool) → (b && false) ≡ false
-no_test true = refl
-no_test false = refl
 
 pub slack_other : (columns : ℕ) (test : Line → Bool) (stride : ℕ) (places : List Place) (cells : List ℤ) (x p : ℕ) → slice_get places x ≡ Some (Column p)
     → slack_test columns test (lines_by stride places cells) x ≡ false
@@ -104,11 +100,7 @@ entering_column columns stride places cells row y p h e =
 
 pub entering_basic : (columns stride : ℕ) (places : List Place) (cells row : List ℤ) (y r : ℕ) → slice_get places y ≡ Some (Row r) → entering_test columns (lines_by stride places cells) (line_in places row) y ≡ false
 entering_basic columns stride places cells row y r e =
-    ap (λ o. nat_le columns y && is_none o && int_lt (pos 0) (coefficient_at (line_in places row) y)) (get_line _ y _ (line_there stride places cells y (Row r) e)) ∙ dropped (nat_le columns y) (int_lt (pos 0) (coefficient_at (line_in places row) y))
-  where
-    dropped : (a b : Bool) → (a && false && b) ≡ false
-    dropped true b = refl
-    dropped false b = refl
+    ap (λ o. nat_le columns y && is_none o && int_lt (pos 0) (coefficient_at (line_in places row) y)) (get_line _ y _ (line_there stride places cells y (Row r) e)) ∙ no_second (nat_le columns y) (int_lt (pos 0) (coefficient_at (line_in places row) y))
 
 pub first_entering_is : (columns stride : ℕ) (places : List Place) (cells : List ℤ) (x r : ℕ) → slice_get places x ≡ Some (Row r)
     → first_entering columns (lines_by stride places cells) x ≡ find (entering_test columns (lines_by stride places cells) (line_in places (row_at stride cells r))) (range_with_len 0 (length (lines_by stride places cells)))

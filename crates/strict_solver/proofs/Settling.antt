@@ -1,9 +1,8 @@
 -- What a basis keeps while it moves.
-use Rattle.std.proofs.Common.{◌≡◌, ◌≢◌, ℕ, zero, suc, ◌+◌, ◌-ℤ◌, ◌≤ℤ◌, ◌⊎◌, inl, inr, ◌*◌, ◌^◌, ◌<◌, ◌≤◌, refl, sym, ap, ◌∙◌, subst, arith, ℤ, pos, ◌<ℤ◌, List, [], ◌∷◌, ◌++◌, length, get_or, map, unsigned_abs, Some}
+use Rattle.std.proofs.Common.{◌≡◌, ◌≢◌, ℕ, zero, suc, ◌+◌, ◌-ℤ◌, ◌≤ℤ◌, ◌⊎◌, inl, inr, ◌*◌, ◌^◌, ◌<◌, ◌≤◌, refl, sym, ap, ◌∙◌, subst, arith, ℤ, pos, ◌<ℤ◌, List, [], ◌∷◌, ◌++◌, length, get_or, unsigned_abs, Some}
 use Rattle.std.specs.Prelude.{slice_get}
 use Rattle.std.proofs.lemmas.Int.{ints}
 use Rattle.ntfe_model.specs.declared.nogood.Fold.{Fold}
-use Rattle.ntfe_model.specs.Solver.{fold_row}
 use Rattle.strict_solver.specs.declared.place.Place.TheVariants.{Row, Column}
 use Rattle.strict_solver.specs.declared.basis.Basis.{Basis}
 use Rattle.strict_solver.specs.Rows.{number, PlacesWithin}
@@ -12,10 +11,8 @@ use Rattle.strict_solver.specs.Mixing.{AreNarrowRows}
 use Rattle.strict_solver.specs.Standing.{fold_sum, cell_at, constant_of, IsSized, StandsAtEnd, StandsLoaded, HasSlackRow, HasNoneBelow, IsFirstBelow, LoadsNothing, IsFirstHeight, HasNoneEntering, IsFirstToEnter, HasSameSizes, HasOtherLine, IsExchanged, IsStuck}
 use Rattle.strict_solver.proofs.Elimination.{from_place, at_place}
 use Rattle.strict_solver.proofs.Standing.{place-basic}
-use Rattle.strict_solver.proofs.Outcome.{are_rows}
-use Rattle.strict_solver.proofs.SlackLines.{reached-length}
 use Rattle.strict_solver.proofs.Moves.{move_of-feasible, moving-feasible}
-use Rattle.strict_solver.proofs.StandingRows.{last_place, front_place, idles, loads}
+use Rattle.strict_solver.proofs.StandingRows.{last_place, idles, loads, push_before}
 use Rattle.strict_solver.proofs.StandingMoves.{slack-row, basic, stuck, moves-to, none-below, ends}
 
 -- the memory is as it was, and the basis stands for a table of the run, with nothing left to load
@@ -23,9 +20,6 @@ pub record IsSettling (old now : Basis) (fs : List Fold) : Type 0 where
   pub sizes : HasSameSizes old now
   pub sized : IsSized now
   pub stands : StandsLoaded now fs
-
-pub same_sizes : (b : Basis) → HasSameSizes b b
-same_sizes b = record { columns = refl; cells = refl; line = refl }
 
 pub sizes_next : (b c d : Basis) → HasSameSizes b c → HasSameSizes c d → HasSameSizes b d
 sizes_next b c d h k = record { columns = k.columns ∙ h.columns; cells = k.cells ∙ h.cells; line = k.line ∙ h.line }
@@ -47,10 +41,6 @@ module _ (b c : Basis) (o : HasOtherLine b c) where
 
   pub other_over : (f : Fold) → IsFoldOver b.columns f → IsFoldOver c.columns f
   other_over f h = let P : ℕ → Type 0 = λ n. IsFoldOver n f in subst P (sym o.columns) h
-
-  -- the basis with this line
-  relined : Basis
-  relined = record { columns = b.columns; denominator = b.denominator; cells = b.cells; places = b.places; line = c.line }
 
   as_relined : c ≡ record { columns = b.columns; denominator = b.denominator; cells = b.cells; places = b.places; line = c.line }
   as_relined i = record { columns = o.columns i; denominator = o.denominator i; cells = o.cells i; places = o.places i; line = c.line }
@@ -120,7 +110,7 @@ module _ (n : ℕ) (before : List Fold) (f : Fold) (over : AreFoldsOver n (befor
   last_over = over.each (length before) f (last_place before f)
 
   pub front_over : AreFoldsOver n before
-  front_over = record { each = λ j g e. over.each j g (front_place before f g j e) }
+  front_over = record { each = λ j g e. over.each j g (push_before before f g j e) }
 
 front_or_last : (gs : List Fold) (f g : Fold) (j : ℕ) → slice_get (gs ++ f ∷ []) j ≡ Some g → (slice_get gs j ≡ Some g) ⊎ (f ≡ g)
 front_or_last [] f g zero e = inr cc
@@ -130,14 +120,8 @@ front_or_last (h ∷ gs) f g (suc j) e = front_or_last gs f g j e
 
 -- ---- a basis at the end of a run
 module _ (b : Basis) (before : List Fold) (h : StandsAtEnd b before) where
-  pub end_within : PlacesWithin (b.columns + 2) b.places.items
-  end_within = record { each = λ v p e. (h.stands.within v p e).1 }
-
   pub end_first : (k : ℕ) → k < b.columns → cell_at b.columns b.cells.items 0 k ≡ b.denominator
   end_first = h.stands.first
-
-  pub end_enough : b.columns ≤ length b.places.items
-  end_enough = let a = h.stands.count in let e = reached-length b.columns (map (fold_row b.columns) before) (are_rows b.columns before) h.ends.steps h.end h.ends.reaches in omega arith
 
   -- one more row has no height to load
   module _ (f : Fold) (over : AreFoldsOver b.columns (before ++ f ∷ [])) (none : LoadsNothing b f) (d : Basis) (ec : d.columns ≡ b.columns) (el : d.cells ≡ b.cells) (ed : d.denominator ≡ b.denominator) (ep : d.places.items ≡ b.places.items ++ Row 0 ∷ []) where

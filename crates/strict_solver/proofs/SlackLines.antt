@@ -4,22 +4,22 @@
 --     slack-value            what a slack's value is
 --     slack-line             a basic slack's line in a table of the run is one for its row
 --     idle-constant          where the slack is not basic, its line has the constant 0
-use Rattle.std.proofs.Common.{◌≡◌, ◌≢◌, ℕ, ◌+◌, ◌<◌, ◌⊎◌, inl, inr, refl, sym, ap, ◌∙◌, arith, ℤ, pos, negsuc, ◌+ℤ◌, ◌-ℤ◌, ◌*ℤ◌, ◌<ℤ◌, List, [], ◌∷◌, map, length, get_or, Some, None, Option}
+use Rattle.std.proofs.Common.{◌≡◌, ◌≢◌, ℕ, ◌+◌, ◌<◌, ◌⊎◌, inl, inr, refl, sym, ap, ◌∙◌, arith, ℤ, pos, negsuc, ◌+ℤ◌, ◌-ℤ◌, ◌*ℤ◌, ◌<ℤ◌, List, [], ◌∷◌, length, get_or, Some, None, Option}
 use Rattle.std.proofs.lemmas.Int.{ints}
-use Rattle.std.proofs.lemmas.List.{get_or-map, same_lists}
-use Rattle.ntfe_nums.proofs.Ring.{ring, product_zero}
+use Rattle.ntfe_nums.proofs.Ring.{ring, product_zero, sum_zero}
 use Rattle.ntfe_nums.proofs.Ring.Expression.{var, num, plus, minus, times}
 use Rattle.ntfe_model.specs.Solver.{Line, Table, coefficient_at, start_line, start_table, Reaches}
 use Rattle.strict_solver.specs.Equations.{combination, Holds}
 use Rattle.strict_solver.specs.Continuing.{IsLowest, IsLineFor}
-use Rattle.strict_solver.proofs.Forms.{zero_factor, length_mapped}
+use Rattle.strict_solver.proofs.Forms.{zero_factor}
 use Rattle.strict_solver.proofs.Pivots.{IsTable, run-table, run-length, run-held}
-use Rattle.strict_solver.proofs.Values.{common, values_by, common-positive, length-values, value-none, values-hold, combination-none}
+use Rattle.strict_solver.proofs.Values.{common, values_by, common-positive, length-values, value-none, values-hold, values-sum}
 use Rattle.strict_solver.proofs.Runs.{AreRows, start_lines, start-at, start-length, start-is_table}
-use Rattle.strict_solver.proofs.Directions.{combination-one, IsDirection, direction_values, direction}
+use Rattle.strict_solver.proofs.Directions.{IsDirection, direction_values, direction, direction-sum}
 use Rattle.strict_solver.proofs.Deciding.{combination-padded}
-use Rattle.strict_solver.proofs.Unique.{proportion, proportional-same, zero_left, zero_right}
+use Rattle.strict_solver.proofs.Unique.{proportion, proportional-same, zero_left, proportional-lists}
 use Rattle.strict_solver.proofs.Entries.{basic_or_not}
+use Rattle.ntfe_nums.proofs.Signs.{product_exchanged}
 
 -- the values where the variables that are not basic are 0
 module _ (q : List ℤ) (s : List (Option Line)) (ws : IsTable s) where
@@ -32,11 +32,7 @@ module _ (q : List ℤ) (s : List (Option Line)) (ws : IsTable s) where
   pub still-value : (l : Line) → IsLineFor q s l → l.d *ℤ (combination q (values_by (pos 1) s) -ℤ pos 1 *ℤ common s) ≡ l.c *ℤ (pos 1 *ℤ common s)
   still-value l f =
       f.value (pos 1 *ℤ common s) (values_by (pos 1) s) (length-values (pos 1) s) (values-hold (pos 1) s ws)
-      ∙ ap (λ k. l.c *ℤ (pos 1 *ℤ common s) +ℤ k) (combination-none l.coefficients (values_by (pos 1) s) (λ k. at k (basic_or_not (get_or s k None)))) ∙ zero_right (l.c *ℤ (pos 1 *ℤ common s))
-    where
-      at : (k : ℕ) → ((o : Line) × (get_or s k None ≡ Some o)) ⊎ (get_or s k None ≡ None) → (get_or l.coefficients k (pos 0) ≡ pos 0) ⊎ (get_or (values_by (pos 1) s) k (pos 0) ≡ pos 0)
-      at k (inl h) = inl (f.zeros k h.0 h.1)
-      at k (inr h) = inr (value-none (pos 1) s k h)
+      ∙ ap (λ k. l.c *ℤ (pos 1 *ℤ common s) +ℤ k) (values-sum (pos 1) s l.coefficients f.zeros) ∙ sum_zero (l.c *ℤ (pos 1 *ℤ common s))
 
   module _ (l m : Line) (f : IsLineFor q s l) (g : IsLineFor q s m) where
     pub constants-proportional : m.d *ℤ l.c ≡ l.d *ℤ m.c
@@ -53,11 +49,7 @@ module _ (q : List ℤ) (s : List (Option Line)) (ws : IsTable s) where
       along : (k : Line) → IsLineFor q s k → k.d *ℤ (combination q vs -ℤ pos 0) ≡ coefficient_at k b *ℤ way.size
       along k h =
           h.value (pos 0) vs way.count way.holds ∙ zero_left k.c (combination k.coefficients vs)
-          ∙ combination-one k.coefficients vs b (λ j a. at j a (basic_or_not (get_or s j None))) ∙ ap (λ v. coefficient_at k b *ℤ v) way.at
-        where
-          at : (j : ℕ) → j ≢ b → ((o : Line) × (get_or s j None ≡ Some o)) ⊎ (get_or s j None ≡ None) → (get_or k.coefficients j (pos 0) ≡ pos 0) ⊎ (get_or vs j (pos 0) ≡ pos 0)
-          at j a (inl o) = inl (h.zeros j o.0 o.1)
-          at j a (inr o) = inr (way.others j a o)
+          ∙ direction-sum s b vs way k.coefficients h.zeros
 
       free : m.d *ℤ coefficient_at l b ≡ l.d *ℤ coefficient_at m b
       free = proportion l.d m.d (coefficient_at l b) (coefficient_at m b) way.size (combination q vs -ℤ pos 0) (λ e. let a = way.positive in omega (arith, ints)) (along l f) (along m g)
@@ -73,21 +65,11 @@ module _ (q : List ℤ) (s : List (Option Line)) (ws : IsTable s) where
             ∙ ap (λ k. l.d *ℤ k) (sym (g.zeros b h.0 h.1))
 
     pub lowest-same : IsLowest l → IsLowest m → l ≡ m
-    lowest-same ll lm = proportional-same l m f.positive g.positive ll lm (λ i. first i ∷ constants-proportional i ∷ rest i)
-      where
-        first : m.d *ℤ l.d ≡ l.d *ℤ m.d
-        first = ring (m.d ∷ l.d ∷ []) (times (var 0) (var 1)) (times (var 1) (var 0)) refl
-
-        rest : map (λ z. m.d *ℤ z) l.coefficients ≡ map (λ z. l.d *ℤ z) m.coefficients
-        rest = same_lists (map (λ z. m.d *ℤ z) l.coefficients) (map (λ z. l.d *ℤ z) m.coefficients)
-            (let a = length_mapped (λ z. m.d *ℤ z) l.coefficients in let b = length_mapped (λ z. l.d *ℤ z) m.coefficients in let c = f.count in let d = g.count in omega arith)
-            (λ k d h.
-            (let a = length_mapped (λ z. m.d *ℤ z) l.coefficients in
-            let c = f.count in
-            let e = g.count in
-            get_or-map (λ z. m.d *ℤ z) l.coefficients k (pos 0) d (omega arith)
-            ∙ lines-proportional k (omega arith)
-            ∙ sym (get_or-map (λ z. l.d *ℤ z) m.coefficients k (pos 0) d (omega arith))))
+    lowest-same ll lm =
+        let c = f.count in
+        let d = g.count in
+        proportional-same l m f.positive g.positive ll lm
+        (λ i. product_exchanged m.d l.d i ∷ constants-proportional i ∷ proportional-lists m.d l.d l.coefficients m.coefficients (omega arith) (λ k h. lines-proportional k (omega arith)) i)
 
 -- ---- the slacks of a run's rows
 module _ (columns : ℕ) (rs : List (List ℤ)) (w : AreRows columns rs) (steps : ℕ) (t : Table) (r : Reaches columns rs None steps t) where

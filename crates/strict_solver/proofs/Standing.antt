@@ -10,7 +10,7 @@ use Rattle.ntfe_nums.specs.Vectors.{sign}
 use Rattle.ntfe_nums.proofs.Ring.{ring}
 use Rattle.ntfe_nums.proofs.Ring.Expression.{var, num, plus, minus, times}
 use Rattle.ntfe_model.specs.declared.nogood.Fold.{Fold}
-use Rattle.ntfe_model.specs.Solver.{Line, fold_row, IsNextLine, IsPivot}
+use Rattle.ntfe_model.specs.Solver.{Line, fold_row, IsPivot}
 use Rattle.strict_solver.specs.declared.place.Place.{Place}
 use Rattle.strict_solver.specs.declared.place.Place.TheVariants.{Row, Column}
 use Rattle.strict_solver.specs.Rows.{number, number_at, line_in}
@@ -20,17 +20,17 @@ use Rattle.strict_solver.specs.Equations.{combination, LineHolds, Holds}
 use Rattle.strict_solver.specs.Continuing.{wider, wider_line, with_row, IsLowest, IsLineFor}
 use Rattle.strict_solver.specs.Standing.{fold_sum, IsSlackRow, IsPutIn, StandsFor}
 use Rattle.strict_solver.proofs.Forms.{combination-set}
-use Rattle.strict_solver.proofs.Pivots.{IsTable, in_table, pivot-held}
-use Rattle.strict_solver.proofs.Placing.{coefficient_there, set_there, set_elsewhere}
+use Rattle.strict_solver.proofs.Pivots.{IsTable, in_table, pivot-held, AreLowest, pivot-left, pivot-new, pivot-free, pivot-kept}
+use Rattle.strict_solver.proofs.Placing.{coefficient_there, not_same, at_leaving, at_entering, at_others, somewhere, came, source, apart_after, column_after}
 use Rattle.strict_solver.proofs.Pivoting.{some_place}
-use Rattle.strict_solver.proofs.Elimination.{from_place, same_place}
+use Rattle.strict_solver.proofs.Elimination.{from_place}
 use Rattle.strict_solver.proofs.Meaning.{row_value}
-use Rattle.strict_solver.proofs.Following.{AreLowest}
 use Rattle.strict_solver.proofs.Deciding.{wider-holds}
 use Rattle.strict_solver.proofs.Joining.{split-last, row-values, row-get, row-last, row-length}
 use Rattle.strict_solver.proofs.Unique.{cancel}
 use Rattle.strict_solver.proofs.Steps.{sign_positive}
 use Rattle.strict_solver.proofs.Starting.{fold_row-length}
+use Rattle.strict_solver.proofs.Entries.{not_both}
 
 -- ---- sums over the variables
 folded : (line a b c e : List ℤ) (al be : ℤ) (places : List Place) (vs : List ℤ) → ((v p : ℕ) → slice_get places v ≡ Some (Column p) → number line p ≡ number c p +ℤ number e p -ℤ al *ℤ number a p -ℤ be *ℤ number b p)
@@ -83,9 +83,6 @@ fold-values columns f vs c h =
     at k l = get_or-take columns vs (k - 1) (pos 0) (let a = l.0 in let b = l.1 in omega arith)
 
 module _ (columns : ℕ) (places : List Place) (cells : List ℤ) (d : ℤ) (s : List (Option Line)) (h : StandsFor columns places cells d s) where
-  not_both : (o : Option Line) (r : Line) → o ≡ Some r → o ≡ None → ⊥
-  not_both o r e f = cc
-
   pub place-basic : (v : ℕ) (l : Line) → get_or s v None ≡ Some l → (r : ℕ) × (slice_get places v ≡ Some (Row r))
   place-basic v l e = let a = some_place places v (let b = in_table s v l e in let c = h.count in omega arith) in by a.0 a.1
     where
@@ -196,118 +193,21 @@ module _ (columns : ℕ) (places : List Place) (cells : List ℤ) (d : ℤ) (s :
   module _ (t : List (Option Line)) (x y r p : ℕ) (line new : List ℤ) (ws : IsTable s) (cs : columns ≤ length s) (ex : slice_get places x ≡ Some (Row r)) (ey : slice_get places y ≡ Some (Column p)) (pv : IsPivot x y s t)
       (slack : (one : ℤ) (vs : List ℤ) → length vs ≡ length s → Holds one vs s → d *ℤ get_or vs x (pos 0) ≡ number line 1 *ℤ one +ℤ combination (map (number_at line) places) vs)
       (some : number line p ≢ pos 0) (put : (k : ℕ) → k < columns → IsPutIn line p d (row_at (columns + 2) cells k) (row_at (columns + 2) new k)) where
-    apart_xy : x ≢ y
-    apart_xy e = let P : ℕ → Type 0 = λ k. slice_get places k ≡ Some (Row r) in let f : Row r ≡ Column p = same_place places y _ _ (subst P e ex) ey in cc
-
-    now : List Place
-    now = set (set places x (Column p)) y (Row r)
-
-    at_x : slice_get (set (set places x (Column p)) y (Row r)) x ≡ Some (Column p)
-    at_x = set_elsewhere (set places x (Column p)) y x (Row r) apart_xy ∙ set_there places x (Column p) (Row r) ex
-
-    at_y : slice_get (set (set places x (Column p)) y (Row r)) y ≡ Some (Row r)
-    at_y = set_there (set places x (Column p)) y (Row r) (Column p) (set_elsewhere places x y (Column p) (λ e. apart_xy (sym e)) ∙ ey)
-
-    at_others : (z : ℕ) → z ≢ x → z ≢ y → slice_get (set (set places x (Column p)) y (Row r)) z ≡ slice_get places z
-    at_others z n m = set_elsewhere (set places x (Column p)) y z (Row r) m ∙ set_elsewhere places x z (Column p) n
-
-    abbrev Where : ℕ → Type 0
-    Where z = (z ≡ x) ⊎ (z ≡ y) ⊎ ((z ≢ x) × (z ≢ y))
-
-    somewhere : (z : ℕ) → Where z
-    somewhere z = by (let c : (z ≡ x) ⊎ (z ≢ x) = grind arith in c) (let c : (z ≡ y) ⊎ (z ≢ y) = grind arith in c)
-      where
-        by : (z ≡ x) ⊎ (z ≢ x) → (z ≡ y) ⊎ (z ≢ y) → Where z
-        by (inl e) c = inl e
-        by (inr n) (inl e) = inr (inl e)
-        by (inr n) (inr m) = inr (inr (n, m))
-
-    -- what stands at a place stood where it comes from
-    came : (z : ℕ) (o : Place) → slice_get (set (set places x (Column p)) y (Row r)) z ≡ Some o
-        → ((z ≡ x) × (o ≡ Column p)) ⊎ ((z ≡ y) × (o ≡ Row r)) ⊎ ((z ≢ x) × (z ≢ y) × (slice_get places z ≡ Some o))
-    came z o e = by (somewhere z)
-      where
-        P : ℕ → Type 0
-        P k = slice_get (set (set places x (Column p)) y (Row r)) k ≡ Some o
-
-        by : Where z → ((z ≡ x) × (o ≡ Column p)) ⊎ ((z ≡ y) × (o ≡ Row r)) ⊎ ((z ≢ x) × (z ≢ y) × (slice_get places z ≡ Some o))
-        by (inl f) = inl (f, sym (same_place (set (set places x (Column p)) y (Row r)) x (Column p) o at_x (subst P f e)))
-        by (inr (inl f)) = inr (inl (f, sym (same_place (set (set places x (Column p)) y (Row r)) y (Row r) o at_y (subst P f e))))
-        by (inr (inr n)) = inr (inr (n.0, n.1, sym (at_others z n.0 n.1) ∙ e))
-
-    within_s : (z : ℕ) (o : Place) → slice_get (set (set places x (Column p)) y (Row r)) z ≡ Some o → z < length s
-    within_s z o e = let a = from_place (set (set places x (Column p)) y (Row r)) z o o e in let k = a.0 in let b = length-set (set places x (Column p)) y (Row r) in let c = length-set places x (Column p) in let g = h.count in omega arith
-
-    same_column : (m n : ℕ) → Column m ≡ Column n → m ≡ n
-    same_column m n e = cc
-
     basic : (v q : ℕ) → slice_get (set (set places x (Column p)) y (Row r)) v ≡ Some (Row q) → (l : Line) × (get_or t v None ≡ Some l)
-    basic v q e = by (came v (Row q) e) (pv.lines v (within_s v (Row q) e))
+    basic v q e = by (came places x y r p ex ey v (Row q) e)
       where
-        by : ((v ≡ x) × (Row q ≡ Column p)) ⊎ ((v ≡ y) × (Row q ≡ Row r)) ⊎ ((v ≢ x) × (v ≢ y) × (slice_get places v ≡ Some (Row q)))
-            → IsNextLine x y pv.new v (get_or s v None) (get_or t v None) → (l : Line) × (get_or t v None ≡ Some l)
-        by (inl a) n = let f = a.1 in cc
-        by (inr (inl a)) (inl b) = absurd (apart_xy (sym b.0 ∙ a.0))
-        by (inr (inl a)) (inr (inl b)) = (pv.new, b.1)
-        by (inr (inl a)) (inr (inr (inl b))) = absurd (b.1 a.0)
-        by (inr (inl a)) (inr (inr (inr b))) = (b.1, b.5)
-        by (inr (inr a)) (inl b) = absurd (a.0 b.0)
-        by (inr (inr a)) (inr (inl b)) = absurd (a.1 b.0)
-        by (inr (inr a)) (inr (inr (inl b))) = let l = h.basic v q a.2 in absurd (not_both (get_or s v None) l.0 l.1 b.2)
-        by (inr (inr a)) (inr (inr (inr b))) = (b.1, b.5)
+        by : ((v ≡ x) × (Row q ≡ Column p)) ⊎ ((v ≡ y) × (Row q ≡ Row r)) ⊎ ((v ≢ x) × (v ≢ y) × (slice_get places v ≡ Some (Row q))) → (l : Line) × (get_or t v None ≡ Some l)
+        by (inl a) = let f = a.1 in cc
+        by (inr (inl a)) = (pv.new, ap (λ k. get_or t k None) a.0 ∙ pivot-new x y s t pv)
+        by (inr (inr a)) = let l = h.basic v q a.2 in pivot-kept x y s t pv v l.0 l.1 a.0
 
     other : (v q : ℕ) → slice_get (set (set places x (Column p)) y (Row r)) v ≡ Some (Column q) → get_or t v None ≡ None
-    other v q e = by (came v (Column q) e) (pv.lines v (within_s v (Column q) e))
+    other v q e = by (came places x y r p ex ey v (Column q) e)
       where
-        by : ((v ≡ x) × (Column q ≡ Column p)) ⊎ ((v ≡ y) × (Column q ≡ Row r)) ⊎ ((v ≢ x) × (v ≢ y) × (slice_get places v ≡ Some (Column q)))
-            → IsNextLine x y pv.new v (get_or s v None) (get_or t v None) → get_or t v None ≡ None
-        by (inl a) (inl b) = b.1
-        by (inl a) (inr (inl b)) = absurd (apart_xy (sym a.0 ∙ b.0))
-        by (inl a) (inr (inr (inl b))) = b.3
-        by (inl a) (inr (inr (inr b))) = absurd (b.2 a.0)
-        by (inr (inl a)) n = let f = a.1 in cc
-        by (inr (inr a)) (inl b) = b.1
-        by (inr (inr a)) (inr (inl b)) = absurd (a.1 b.0)
-        by (inr (inr a)) (inr (inr (inl b))) = b.3
-        by (inr (inr a)) (inr (inr (inr b))) = absurd (not_both (get_or s v None) b.0 b.4 (h.other v q a.2))
-
-    within : (v q : ℕ) → slice_get (set (set places x (Column p)) y (Row r)) v ≡ Some (Column q) → (2 ≤ q) × (q < columns + 2)
-    within v q e = by (came v (Column q) e)
-      where
-        by : ((v ≡ x) × (Column q ≡ Column p)) ⊎ ((v ≡ y) × (Column q ≡ Row r)) ⊎ ((v ≢ x) × (v ≢ y) × (slice_get places v ≡ Some (Column q))) → (2 ≤ q) × (q < columns + 2)
-        by (inl a) = let f = same_column q p a.1 in let b = h.within y p ey in (let g = b.0 in omega arith, let g = b.1 in omega arith)
+        by : ((v ≡ x) × (Column q ≡ Column p)) ⊎ ((v ≡ y) × (Column q ≡ Row r)) ⊎ ((v ≢ x) × (v ≢ y) × (slice_get places v ≡ Some (Column q))) → get_or t v None ≡ None
+        by (inl a) = ap (λ k. get_or t k None) a.0 ∙ pivot-left x y s t pv
         by (inr (inl a)) = let f = a.1 in cc
-        by (inr (inr a)) = h.within v q a.2
-
-    apart : (u v q : ℕ) → slice_get (set (set places x (Column p)) y (Row r)) u ≡ Some (Column q) → slice_get (set (set places x (Column p)) y (Row r)) v ≡ Some (Column q) → u ≡ v
-    apart u v q e f = by (came u (Column q) e) (came v (Column q) f)
-      where
-        Came : ℕ → Type 0
-        Came z = ((z ≡ x) × (Column q ≡ Column p)) ⊎ ((z ≡ y) × (Column q ≡ Row r)) ⊎ ((z ≢ x) × (z ≢ y) × (slice_get places z ≡ Some (Column q)))
-
-        stood : (z : ℕ) → Column q ≡ Column p → slice_get places z ≡ Some (Column q) → z ≡ y
-        stood z g i = h.apart z y p (i ∙ ap Some g) ey
-
-        by : Came u → Came v → u ≡ v
-        by (inl a) (inl b) = a.0 ∙ sym b.0
-        by (inl a) (inr (inl b)) = let g = b.1 in cc
-        by (inl a) (inr (inr b)) = absurd (b.1 (stood v a.1 b.2))
-        by (inr (inl a)) b = let g = a.1 in cc
-        by (inr (inr a)) (inl b) = absurd (a.1 (stood u b.1 a.2))
-        by (inr (inr a)) (inr (inl b)) = let g = b.1 in cc
-        by (inr (inr a)) (inr (inr b)) = h.apart u v q a.2 b.2
-
-    taken : (q : ℕ) → 2 ≤ q → q < columns + 2 → (v : ℕ) × (slice_get (set (set places x (Column p)) y (Row r)) v ≡ Some (Column q))
-    taken q l m = by (h.taken q l m) (let c : (q ≡ p) ⊎ (q ≢ p) = grind arith in c)
-      where
-        no_row : Row r ≡ Column q → ⊥
-        no_row e = cc
-
-        by : (v : ℕ) × (slice_get places v ≡ Some (Column q)) → (q ≡ p) ⊎ (q ≢ p) → (v : ℕ) × (slice_get (set (set places x (Column p)) y (Row r)) v ≡ Some (Column q))
-        by a (inl e) = (x, at_x ∙ ap (λ z. Some (Column z)) (sym e))
-        by a (inr n) =
-            let P : ℕ → Type 0 = λ z. slice_get places z ≡ Some (Column q) in
-            (a.0, at_others a.0 (λ e. no_row (same_place places x (Row r) (Column q) ex (subst P e a.1))) (λ e. n (same_column q p (same_place places y (Column q) (Column p) (subst P e a.1) ey))) ∙ a.1)
+        by (inr (inr a)) = pivot-free x y s t pv v (h.other v q a.2) a.1
 
     abbrev P : ℤ
     P = sign (number line p) *ℤ number line p
@@ -368,7 +268,7 @@ module _ (columns : ℕ) (places : List Place) (cells : List ℤ) (d : ℤ) (s :
 
         -- each number by those of the row and of the line
         each : (j : ℕ) → d *ℤ get_or (set E x (pos 0)) j (pos 0) ≡ P *ℤ get_or O j (pos 0) -ℤ X *ℤ get_or L j (pos 0)
-        each j = by (somewhere j) (let a : (j < length places) ⊎ (length places ≤ j) = grind arith in a)
+        each j = by (somewhere places x y r p ex ey j) (let a : (j < length places) ⊎ (length places ≤ j) = grind arith in a)
           where
             by-three : (a b e : ℤ) → get_or (set E x (pos 0)) j (pos 0) ≡ a → get_or O j (pos 0) ≡ b → get_or L j (pos 0) ≡ e → d *ℤ a ≡ P *ℤ b -ℤ X *ℤ e
                 → d *ℤ get_or (set E x (pos 0)) j (pos 0) ≡ P *ℤ get_or O j (pos 0) -ℤ X *ℤ get_or L j (pos 0)
@@ -381,15 +281,15 @@ module _ (columns : ℕ) (places : List Place) (cells : List ℤ) (d : ℤ) (s :
             standing (Row q) n m f =
                 let a = at j (Row q) refl f in
                 by-three (pos 0) (pos 0) (pos 0)
-                (get_or-set_other E x j (pos 0) (pos 0) n ∙ coefficient_there (set (set places x (Column p)) y (Row r)) (row_at (columns + 2) new k) j (Row q) (at_others j n m ∙ f)) a.0 a.1 nothing
+                (get_or-set_other E x j (pos 0) (pos 0) n ∙ coefficient_there (set (set places x (Column p)) y (Row r)) (row_at (columns + 2) new k) j (Row q) (at_others places x y r p ex ey j n m ∙ f)) a.0 a.1 nothing
             standing (Column q) n m f =
                 let a = at j (Column q) refl f in
                 let w = h.within j q f in
                 by-three (number (row_at (columns + 2) new k) q) (number (row_at (columns + 2) cells k) q) (number line q)
-                (get_or-set_other E x j (pos 0) (pos 0) n ∙ coefficient_there (set (set places x (Column p)) y (Row r)) (row_at (columns + 2) new k) j (Column q) (at_others j n m ∙ f)) a.0 a.1
+                (get_or-set_other E x j (pos 0) (pos 0) n ∙ coefficient_there (set (set places x (Column p)) y (Row r)) (row_at (columns + 2) new k) j (Column q) (at_others places x y r p ex ey j n m ∙ f)) a.0 a.1
                 (i.others q (λ e. let b = w.0 in omega arith) (λ e. m (h.apart j y q f (ey ∙ ap (λ z. Some (Column z)) (sym e)))))
 
-            by : Where j → (j < length places) ⊎ (length places ≤ j) → d *ℤ get_or (set E x (pos 0)) j (pos 0) ≡ P *ℤ get_or O j (pos 0) -ℤ X *ℤ get_or L j (pos 0)
+            by : (j ≡ x) ⊎ (j ≡ y) ⊎ ((j ≢ x) × (j ≢ y)) → (j < length places) ⊎ (length places ≤ j) → d *ℤ get_or (set E x (pos 0)) j (pos 0) ≡ P *ℤ get_or O j (pos 0) -ℤ X *ℤ get_or L j (pos 0)
             by w (inr l) =
                 by-three (pos 0) (pos 0) (pos 0) (get_or_past (set E x (pos 0)) j (pos 0) (let a = length-set E x (pos 0) in let b = count in omega arith))
                 (get_or_past O j (pos 0) (let a = length-map places (number_at (row_at (columns + 2) cells k)) in omega arith)) (get_or_past L j (pos 0) (let a = length-map places (number_at line) in omega arith)) nothing
@@ -399,13 +299,13 @@ module _ (columns : ℕ) (places : List Place) (cells : List ℤ) (d : ℤ) (s :
             by (inr (inl e)) (inl l) =
                 let a = at y (Column p) e ey in
                 by-three (pos 0) (number (row_at (columns + 2) cells k) p) (number line p)
-                (ap (λ z. get_or (set E x (pos 0)) z (pos 0)) e ∙ get_or-set_other E x y (pos 0) (pos 0) (λ f. apart_xy (sym f)) ∙ coefficient_there (set (set places x (Column p)) y (Row r)) (row_at (columns + 2) new k) y (Row r) at_y) a.0 a.1
+                (ap (λ z. get_or (set E x (pos 0)) z (pos 0)) e ∙ get_or-set_other E x y (pos 0) (pos 0) (λ f. not_same places x y r p ex ey (sym f)) ∙ coefficient_there (set (set places x (Column p)) y (Row r)) (row_at (columns + 2) new k) y (Row r) (at_entering places x y r p ex ey)) a.0 a.1
                 (ring (d ∷ sign (number line p) ∷ number line p ∷ number (row_at (columns + 2) cells k) p ∷ []) (times (var 0) (num (pos 0))) (minus (times (times (var 1) (var 2)) (var 3)) (times (times (var 1) (var 3)) (var 2))) refl)
             by (inr (inr n)) (inl l) = let o = some_place places j l in standing o.0 n.0 n.1 o.1
 
         sums : d *ℤ (combination E vs +ℤ (pos 0 -ℤ X) *ℤ vx) ≡ P *ℤ combination O vs -ℤ X *ℤ combination L vs
         sums =
-            ap (λ z. d *ℤ z) (ap (λ z. combination E vs +ℤ (pos 0 -ℤ z) *ℤ vx) (sym (coefficient_there (set (set places x (Column p)) y (Row r)) (row_at (columns + 2) new k) x (Column p) at_x ∙ i.at))
+            ap (λ z. d *ℤ z) (ap (λ z. combination E vs +ℤ (pos 0 -ℤ z) *ℤ vx) (sym (coefficient_there (set (set places x (Column p)) y (Row r)) (row_at (columns + 2) new k) x (Column p) (at_leaving places x y r p ex ey) ∙ i.at))
             ∙ sym (combination-set E vs x (pos 0) (let a = count in let b = lx in omega arith) (let a = count in let b = h.count in c-len a b)))
             ∙ mixed d P X (set E x (pos 0)) O L vs (length-set E x (pos 0) ∙ count ∙ sym (length-map places (number_at (row_at (columns + 2) cells k)))) (length-map places (number_at line) ∙ sym (length-map places (number_at (row_at (columns + 2) cells k)))) each
           where
@@ -417,9 +317,9 @@ module _ (columns : ℕ) (places : List Place) (cells : List ℤ) (d : ℤ) (s :
       count = length-set (set places x (Column p)) y (Row r) ∙ length-set places x (Column p) ∙ h.count ∙ sym pv.length_same;
       basic = basic;
       other = other;
-      within = within;
-      apart = apart;
-      taken = taken;
+      within = λ v q e. (let a = source places x y r p ex ey v (Column q) e in h.within a.0 q a.1);
+      apart = λ u v q. apart_after places x y r p ex ey (Column q) (λ a b. h.apart a b q) u v;
+      taken = λ q l m. (let a = h.taken q l m in column_after places x y r p ex ey q a.0 a.1);
       positive = sign_positive (number line p) some;
       first = λ k lk. (put k lk).first;
       holds = λ one vs c hs k lk. height-holds one vs (c ∙ pv.length_same) (pivot-held x y s t pv ws one vs (c ∙ pv.length_same) hs) k lk;

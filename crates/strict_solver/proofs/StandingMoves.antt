@@ -5,7 +5,7 @@
 --     leaves, enters     which slack leaves and which enters
 --     moves-to           after the exchange the basis stands for the next table
 --     stuck              where no slack can enter, the run ends infeasible
-use Rattle.std.proofs.Common.{◌≡◌, ◌≢◌, ℕ, zero, suc, ◌+◌, ◌-◌, ◌<◌, ◌≤◌, ◌⊎◌, inl, inr, Bool, true, false, ◌&&◌, refl, sym, ap, ◌∙◌, subst, arith, ℤ, pos, negsuc, ◌+ℤ◌, ◌-ℤ◌, ◌*ℤ◌, ◌<ℤ◌, ◌≤ℤ◌, int_lt, List, [], ◌∷◌, map, length, get_or, set, Some, None, Option}
+use Rattle.std.proofs.Common.{◌≡◌, ◌≢◌, ℕ, zero, suc, ◌+◌, ◌-◌, ◌<◌, ◌≤◌, ◌⊎◌, inl, inr, ⊎_elim, Bool, true, false, ◌&&◌, refl, sym, ap, ◌∙◌, subst, arith, ℤ, pos, ◌+ℤ◌, ◌-ℤ◌, ◌*ℤ◌, ◌<ℤ◌, ◌≤ℤ◌, int_lt, List, [], map, length, get_or, set, Some, None, Option}
 use Rattle.std.specs.Prelude.{slice_get, find, nat_le, is_none}
 use Rattle.std.specs.Option.{option_map_or, option_and_then}
 use Rattle.std.specs.List.{range_with_len}
@@ -13,8 +13,6 @@ use Rattle.std.proofs.lemmas.Int.{ints}
 use Rattle.std.proofs.lemmas.List.{get_or-map, length-map}
 use Rattle.std.proofs.lemmas.Bool.Decides.{nat_tests}
 use Rattle.ntfe_nums.specs.Vectors.{sign}
-use Rattle.ntfe_nums.proofs.Ring.{ring}
-use Rattle.ntfe_nums.proofs.Ring.Expression.{var, times}
 use Rattle.ntfe_model.specs.declared.nogood.Fold.{Fold}
 use Rattle.ntfe_model.specs.Solver.{Line, Table, coefficient_at, fold_row, first_negative, first_entering, IsPivot}
 use Rattle.ntfe_model.specs.Solver.Move.{pivot, feasible, infeasible}
@@ -28,8 +26,8 @@ use Rattle.strict_solver.specs.Continuing.{IsLineFor, HasLoadedTo}
 use Rattle.strict_solver.specs.Standing.{fold_sum, cell_at, constant_of, IsSlackRow, StandsFor, StandsAtEnd, StandsLoaded, HasSlackRow, HasNoneBelow, IsFirstBelow, HasNoneEntering, IsFirstToEnter, IsExchanged, IsStuck}
 use Rattle.strict_solver.proofs.Pivots.{IsTable}
 use Rattle.strict_solver.proofs.Runs.{AreRows}
-use Rattle.strict_solver.proofs.Values.{product_negative, factor_negative, factor_at_least, product_at_most}
-use Rattle.strict_solver.proofs.Moves.{no_first_slack, int_lt-not_zero, IsMove}
+use Rattle.strict_solver.proofs.Values.{product_negative, factor_negative}
+use Rattle.strict_solver.proofs.Moves.{no_first_slack, int_lt-not_zero, IsMove, no_test, no_second, no_third}
 use Rattle.strict_solver.proofs.Steps.{step_lines, step-is, move-pivotable}
 use Rattle.strict_solver.proofs.Searches.{found_at, found_nowhere, slack_test, slack_before, first_slack_at, first_slack_none, below_passes, below_fails, above_passes, above_fails, entering_test, entering_before}
 use Rattle.strict_solver.proofs.Placing.{coefficient_there}
@@ -40,7 +38,7 @@ use Rattle.strict_solver.proofs.Outcome.{are_rows}
 use Rattle.strict_solver.proofs.Path.{moves-on, ends-here}
 use Rattle.strict_solver.proofs.SlackLines.{constants-proportional, lines-proportional, reached-table, reached-length, slack-value, slack-line, idle-constant}
 use Rattle.strict_solver.proofs.Standing.{raw-line, pivoted}
-use Rattle.ntfe_nums.proofs.Signs.{positive_product, product_not_negative}
+use Rattle.ntfe_nums.proofs.Signs.{positive_product, product_not_negative, sign_of, not_negative, not_both_signs, factor_not_negative, product_not_positive}
 
 -- ---- the row of a slack
 abbrev entry : ℕ → List ℤ → ℤ → Fold → ℕ → ℤ
@@ -69,44 +67,16 @@ slack-row columns cells d f = (
 
 -- ---- signs of proportional numbers
 same_least : (d g a b : ℤ) → pos 0 <ℤ d → pos 0 <ℤ g → g *ℤ a ≡ d *ℤ b → pos 0 ≤ℤ a → pos 0 ≤ℤ b
-same_least d g a b pd pg e h = factor_at_least d b pd (let P : ℤ → Type 0 = λ z. pos 0 ≤ℤ z in subst P e (product_not_negative g a (weak g pg) h))
-  where
-    weak : (z : ℤ) → pos 0 <ℤ z → pos 0 ≤ℤ z
-    weak z l = omega (arith, ints)
+same_least d g a b pd pg e h = factor_not_negative d b pd (let P : ℤ → Type 0 = λ z. pos 0 ≤ℤ z in subst P e (product_not_negative g a (not_negative g pg) h))
 
 same_negative : (d g a b : ℤ) → pos 0 <ℤ d → pos 0 <ℤ g → g *ℤ a ≡ d *ℤ b → a <ℤ pos 0 → b <ℤ pos 0
 same_negative d g a b pd pg e h = factor_negative d b pd (let P : ℤ → Type 0 = λ z. z <ℤ pos 0 in subst P e (product_negative g a pg h))
 
 same_positive : (d g a b : ℤ) → pos 0 <ℤ d → pos 0 <ℤ g → g *ℤ a ≡ d *ℤ b → pos 0 <ℤ a → pos 0 <ℤ b
-same_positive d g a b pd pg e h = by (positive_product g a pg h) (λ i. product_at_most' d b pd i)
-  where
-    product_at_most' : (d b : ℤ) → pos 0 <ℤ d → b ≤ℤ pos 0 → (d *ℤ b) ≤ℤ pos 0
-    product_at_most' d b p i = let k = product_at_most b d i (weak d p) in let c : d *ℤ b ≡ b *ℤ d = ring (d ∷ b ∷ []) (times (var 0) (var 1)) (times (var 1) (var 0)) refl in omega (arith, ints)
-      where
-        weak : (z : ℤ) → pos 0 <ℤ z → pos 0 ≤ℤ z
-        weak z l = omega (arith, ints)
-
-    by : pos 0 <ℤ (g *ℤ a) → (b ≤ℤ pos 0 → (d *ℤ b) ≤ℤ pos 0) → pos 0 <ℤ b
-    by p f = above b (λ i. let k = f i in omega (arith, ints))
-      where
-        above : (z : ℤ) → (z ≤ℤ pos 0 → ⊥) → pos 0 <ℤ z
-        above (pos zero) k = absurd (k (omega (arith, ints)))
-        above (pos (suc n)) k = omega (arith, ints)
-        above (negsuc n) k = absurd (k (omega (arith, ints)))
+same_positive d g a b pd pg e h = ⊎_elim (λ i. i) (λ i. absurd (not_both_signs _ _ (sym e) (product_not_positive d b (not_negative d pd) i) (positive_product g a pg h))) (sign_of b)
 
 same_most : (d g a b : ℤ) → pos 0 <ℤ d → pos 0 <ℤ g → g *ℤ a ≡ d *ℤ b → a ≤ℤ pos 0 → b ≤ℤ pos 0
-same_most d g a b pd pg e h = below b (λ i. (let k = positive_product d b pd i in let l = least g a pg h in omega (arith, ints)))
-  where
-    least : (g a : ℤ) → pos 0 <ℤ g → a ≤ℤ pos 0 → (g *ℤ a) ≤ℤ pos 0
-    least g a p i = let k = product_at_most a g i (weak g p) in let c : g *ℤ a ≡ a *ℤ g = ring (g ∷ a ∷ []) (times (var 0) (var 1)) (times (var 1) (var 0)) refl in omega (arith, ints)
-      where
-        weak : (z : ℤ) → pos 0 <ℤ z → pos 0 ≤ℤ z
-        weak z l = omega (arith, ints)
-
-    below : (z : ℤ) → (pos 0 <ℤ z → ⊥) → z ≤ℤ pos 0
-    below (pos zero) k = omega (arith, ints)
-    below (pos (suc n)) k = absurd (k (omega (arith, ints)))
-    below (negsuc n) k = omega (arith, ints)
+same_most d g a b pd pg e h = ⊎_elim (λ i. absurd (not_both_signs _ _ e (product_not_positive g a (not_negative g pg) h) (positive_product d b pd i))) (λ i. i) (sign_of b)
 
 -- ---- a basis in the moving
 module _ (b : Basis) (fs : List Fold) (over : AreFoldsOver b.columns fs) (h : StandsLoaded b fs) where
@@ -155,19 +125,15 @@ module _ (b : Basis) (fs : List Fold) (over : AreFoldsOver b.columns fs) (h : St
       line : (k : List ℤ) × IsSlackRow b.columns b.cells.items b.denominator f k
       line = slack-row b.columns b.cells.items b.denominator f
 
-      both-false : (x : Bool) → (x && false) ≡ false
-      both-false true = refl
-      both-false false = refl
-
       by : (o : Option Line) → get_or h.table.lines (b.columns + j) None ≡ o → (nat_le b.columns (b.columns + j) && option_map_or (λ r. int_lt r.c (pos 0)) (get_or h.table.lines (b.columns + j) None) false) ≡ false
-      by None g = ap (λ o. nat_le b.columns (b.columns + j) && option_map_or (λ r. int_lt r.c (pos 0)) o false) g ∙ both-false (nat_le b.columns (b.columns + j))
+      by None g = ap (λ o. nat_le b.columns (b.columns + j) && option_map_or (λ r. int_lt r.c (pos 0)) o false) g ∙ no_test (nat_le b.columns (b.columns + j))
       by (Some r) g =
           ap (λ o. nat_le b.columns (b.columns + j) && option_map_or (λ r. int_lt r.c (pos 0)) o false) g
           ∙ ap (λ z. nat_le b.columns (b.columns + j) && z)
           (below_fails r.c
           (same_least (number line.0 0) r.d (number line.0 1) r.c (raw j f e line.0 line.1).positive (real j f e line.0 line.1 r g).positive (constants j f e line.0 line.1 r g)
           (let P : ℤ → Type 0 = λ z. pos 0 ≤ℤ z in subst P (sym line.1.constant) l)))
-          ∙ both-false (nat_le b.columns (b.columns + j))
+          ∙ no_test (nat_le b.columns (b.columns + j))
 
   before-slack : (test : Line → Bool) (x : ℕ) → x < b.columns → slack_test b.columns test h.table.lines x ≡ false
   before-slack test x l = slack_before b.columns test h.table.lines x l
@@ -266,23 +232,14 @@ module _ (b : Basis) (fs : List Fold) (over : AreFoldsOver b.columns fs) (h : St
       enters-not : (y : ℕ) → y < length h.table.lines → ((p : ℕ) → b.columns ≤ y → slice_get b.places.items y ≡ Some (Column p) → number b.line.items p ≤ℤ pos 0) → entering_test b.columns h.table.lines basic.0 y ≡ false
       enters-not y l f = by (let c : (y < b.columns) ⊎ (b.columns ≤ y) = grind arith in c) (let c = h.stands.count in some_place b.places.items y (omega arith))
         where
-          third : (u v : Bool) → (u && v && false) ≡ false
-          third true true = refl
-          third true false = refl
-          third false v = refl
-
-          second : (u v : Bool) → (u && false && v) ≡ false
-          second true v = refl
-          second false v = refl
-
           at : (o : Place) → slice_get b.places.items y ≡ Some o → b.columns ≤ y → entering_test b.columns h.table.lines basic.0 y ≡ false
           at (Row r) e c =
               let a = h.stands.basic y r e in
-              ap (λ o. nat_le b.columns y && is_none o && int_lt (pos 0) (coefficient_at basic.0 y)) a.1 ∙ second (nat_le b.columns y) (int_lt (pos 0) (coefficient_at basic.0 y))
+              ap (λ o. nat_le b.columns y && is_none o && int_lt (pos 0) (coefficient_at basic.0 y)) a.1 ∙ no_second (nat_le b.columns y) (int_lt (pos 0) (coefficient_at basic.0 y))
           at (Column p) e c =
               ap (λ z. nat_le b.columns y && is_none (get_or h.table.lines y None) && z)
               (above_fails (coefficient_at basic.0 y) (same_most (number b.line.items 0) basic.0.d (number b.line.items p) (coefficient_at basic.0 y) kept.positive theirs.positive (proportional y (Column p) e) (f p c e)))
-              ∙ third (nat_le b.columns y) (is_none (get_or h.table.lines y None))
+              ∙ no_third (nat_le b.columns y) (is_none (get_or h.table.lines y None))
 
           by : (y < b.columns) ⊎ (b.columns ≤ y) → (o : Place) × (slice_get b.places.items y ≡ Some o) → entering_test b.columns h.table.lines basic.0 y ≡ false
           by (inl c) o = entering_before b.columns h.table.lines basic.0 y c

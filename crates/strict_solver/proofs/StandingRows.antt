@@ -1,7 +1,7 @@
 -- One more row for a basis that stands at the end of a run.
 --     loads      the row has a height that is not basic: one exchange leads to the next end
 --     idles      it has none: the basis goes on moving
-use Rattle.std.proofs.Common.{◌≡◌, ◌≢◌, ℕ, zero, suc, ◌+◌, ◌<◌, ◌≤◌, refl, sym, ap, ◌∙◌, subst, arith, ℤ, pos, ◌+ℤ◌, ◌*ℤ◌, List, [], ◌∷◌, ◌++◌, map, length, get_or, set, Some, None, Option}
+use Rattle.std.proofs.Common.{◌≡◌, ◌≢◌, ℕ, ◌+◌, ◌<◌, ◌≤◌, refl, sym, ap, ◌∙◌, subst, arith, ℤ, pos, ◌+ℤ◌, ◌*ℤ◌, List, [], ◌∷◌, ◌++◌, map, length, get_or, set, Some, None, Option, suc, zero}
 use Rattle.std.specs.Prelude.{slice_get}
 use Rattle.std.proofs.lemmas.List.{get_or-map, map-append}
 use Rattle.ntfe_nums.specs.Vectors.{sign}
@@ -18,11 +18,10 @@ use Rattle.strict_solver.specs.Equations.{combination, Holds}
 use Rattle.strict_solver.specs.Continuing.{wider, with_row, IsLineFor, IsLeastHeight, EndsWith, HasLoadedTo}
 use Rattle.strict_solver.specs.Standing.{StandsFor, StandsAtEnd, StandsLoaded, IsSlackRow, fold_sum, cell_at, LoadsNothing, IsFirstHeight, IsExchanged, IsPutIn}
 use Rattle.strict_solver.proofs.Forms.{reduced_parts, reduced-holds}
-use Rattle.strict_solver.proofs.Pivots.{IsTable}
+use Rattle.strict_solver.proofs.Pivots.{IsTable, AreLowest, reduced-clear}
 use Rattle.strict_solver.proofs.Runs.{AreRows}
 use Rattle.strict_solver.proofs.Reduced.{reduced, reduced-is}
-use Rattle.strict_solver.proofs.Wider.{reduced-wider, reduced-clear}
-use Rattle.strict_solver.proofs.Following.{AreLowest}
+use Rattle.strict_solver.proofs.Wider.{reduced-wider}
 use Rattle.strict_solver.proofs.Elimination.{same_place}
 use Rattle.strict_solver.proofs.Placing.{coefficient_there}
 use Rattle.strict_solver.proofs.GoingOn.{start-lowest}
@@ -39,10 +38,10 @@ pub last_place : {A : Type 0} (ps : List A) (o : A) → slice_get (ps ++ o ∷ [
 last_place [] o = refl
 last_place (p ∷ ps) o = last_place ps o
 
-pub front_place : {A : Type 0} (ps : List A) (o q : A) (v : ℕ) → slice_get ps v ≡ Some q → slice_get (ps ++ o ∷ []) v ≡ Some q
-front_place [] o q v e = cc
-front_place (p ∷ ps) o q zero e = e
-front_place (p ∷ ps) o q (suc v) e = front_place ps o q v e
+pub push_before : {X : Type 0} (xs : List X) (y x : X) (i : ℕ) → slice_get xs i ≡ Some x → slice_get (xs ++ y ∷ []) i ≡ Some x
+push_before [] y x i e = cc
+push_before (z ∷ xs) y x zero e = e
+push_before (z ∷ xs) y x (suc i) e = push_before xs y x i e
 
 one-more : (n : ℕ) (fs : List Fold) (f : Fold) → map (fold_row n) (fs ++ f ∷ []) ≡ map (fold_row n) fs ++ fold_row n f ∷ []
 one-more n fs f = map-append (fold_row n) fs (f ∷ [])
@@ -147,7 +146,7 @@ module _ (b : Basis) (fs : List Fold) (f : Fold) (over : IsFoldOver b.columns f)
       column-same m n e g = let a : Column m ≡ Column n = same_place (b.places.items ++ Row 0 ∷ []) y (Column m) (Column n) e g in cc
 
       some : number line p ≢ pos 0
-      some e = i.some (sym (entry y i.column i.is) ∙ ap (number line) (column-same i.column p (front_place b.places.items (Row 0) (Column i.column) y i.is) ey) ∙ e)
+      some e = i.some (sym (entry y i.column i.is) ∙ ap (number line) (column-same i.column p (push_before b.places.items (Row 0) (Column i.column) y i.is) ey) ∙ e)
 
       slack : (one : ℤ) (vs : List ℤ) → length vs ≡ length (with_row h.end.lines (reduced (line_in b.places.items line))) → Holds one vs (with_row h.end.lines (reduced (line_in b.places.items line)))
           → b.denominator *ℤ get_or vs (length h.end.lines) (pos 0) ≡ number line 1 *ℤ one +ℤ combination (map (number_at line) (b.places.items ++ Row 0 ∷ [])) vs

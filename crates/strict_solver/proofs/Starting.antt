@@ -1,5 +1,5 @@
 -- The rows of the start.
-use Rattle.std.proofs.Common.{◌≡◌, ◌≢◌, ℕ, zero, suc, ◌+◌, ◌^◌, ◌<◌, ◌≤◌, ◌==◌, Bool, true, false, cond, refl, sym, ap, ◌∙◌, arith, ℤ, pos, ◌+ℤ◌, ◌-ℤ◌, neg_ℤ, List, length, unsigned_abs, to_z, of_z, w64}
+use Rattle.std.proofs.Common.{◌≡◌, ℕ, zero, suc, ◌+◌, ◌^◌, ◌<◌, ◌≤◌, ◌==◌, Bool, true, false, cond, refl, sym, ap, ◌∙◌, arith, ℤ, pos, ◌+ℤ◌, ◌-ℤ◌, neg_ℤ, List, length, unsigned_abs, to_z, of_z, w64}
 use Rattle.std.proofs.lemmas.Int.{ints}
 use Rattle.std.proofs.lemmas.Bool.Decides.{nat_tests}
 use Rattle.ntfe_model.specs.Certificates.{where_equal, fold_coefficient}
@@ -10,6 +10,7 @@ use Rattle.ntfe_model.specs.Solver.{fold_row}
 use Rattle.strict_solver.specs.Rows.{number}
 use Rattle.strict_solver.specs.Starts.{IsFoldOver, IsStartRow}
 use Rattle.strict_solver.proofs.Rows.{unwrap64}
+use Rattle.ntfe_model.proofs.Coefficients.{equal_elsewhere}
 use Rattle.ntfe_model.proofs.Lists.{range_length}
 
 pub fold_row-length : (n : ℕ) (f : Fold) → length (fold_row n f) ≡ n
@@ -19,13 +20,6 @@ pub clear_small : (row : List ℤ) → number row 0 ≡ pos 1 → number row 1 �
 clear_small row a b c zero = omega (arith, ints)
 clear_small row a b c (suc zero) = omega (arith, ints)
 clear_small row a b c (suc (suc k)) = let e = c (suc (suc k)) (omega arith) in omega (arith, ints)
-
-pub elsewhere : (j k : ℕ) (z : ℤ) → j ≢ k → where_equal j k z ≡ pos 0
-elsewhere j k z n = by (j == k) refl
-  where
-    by : (b : Bool) → (j == k) ≡ b → cond b z (pos 0) ≡ pos 0
-    by true e = absurd (n (let f : j ≡ k = grind (arith, nat_tests) in f))
-    by false e = refl
 
 pub shifted : (j k : ℕ) (z : ℤ) → where_equal (j + 1) (k + 2) z ≡ where_equal j (k + 1) z
 shifted j k z = ap (λ b. cond b z (pos 0)) (let e : (j + 1 == k + 2) ≡ (j == k + 1) = same (j == k + 1) refl in e)
@@ -63,8 +57,8 @@ module _ (f : Fold) (n : ℕ) (r0 r1 r2 r3 r4 : List ℤ) (h : IsFoldOver n f) (
   early : (k : ℕ) → k < 2 → number r4 k ≡ number r0 k
   early k l =
       in_all k
-      ∙ (λ i. number r0 k +ℤ elsewhere (f.c + 1) k (pos 1) (λ e. let a = h.c.0 in omega arith) i +ℤ elsewhere (f.d + 1) k (pos 1) (λ e. let a = h.d.0 in omega arith) i
-      +ℤ elsewhere (f.a + 1) k (neg_ℤ f.alpha) (λ e. let a = h.a.0 in omega arith) i +ℤ elsewhere (f.b + 1) k (neg_ℤ f.beta) (λ e. let a = h.b.0 in omega arith) i)
+      ∙ (λ i. number r0 k +ℤ equal_elsewhere (f.c + 1) k (pos 1) (λ e. let a = h.c.0 in omega arith) i +ℤ equal_elsewhere (f.d + 1) k (pos 1) (λ e. let a = h.d.0 in omega arith) i
+      +ℤ equal_elsewhere (f.a + 1) k (neg_ℤ f.alpha) (λ e. let a = h.a.0 in omega arith) i +ℤ equal_elsewhere (f.b + 1) k (neg_ℤ f.beta) (λ e. let a = h.b.0 in omega arith) i)
       ∙ plain (number r0 k)
     where
       plain : (z : ℤ) → z +ℤ pos 0 +ℤ pos 0 +ℤ pos 0 +ℤ pos 0 ≡ z

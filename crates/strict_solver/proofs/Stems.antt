@@ -19,10 +19,9 @@ use Rattle.strict_solver.specs.Equations.{LineHolds}
 use Rattle.strict_solver.specs.Continuing.{EndsWith}
 use Rattle.strict_solver.specs.Standing.{IsSized, StandsFor, StandsAtEnd, IsStuck, HasHeights}
 use Rattle.strict_solver.specs.Stems.{ArePlacedHeights, IsItself, HasMemory, IsKnownStem, IsCopy}
-use Rattle.strict_solver.proofs.Runs.{start-length}
-use Rattle.strict_solver.proofs.GoingOn.{start-none}
+use Rattle.strict_solver.proofs.Runs.{start-length, start-none}
 use Rattle.strict_solver.proofs.Elimination.{from_place, same_place}
-use Rattle.strict_solver.proofs.Placing.{coefficient_there}
+use Rattle.strict_solver.proofs.Placing.{coefficient_there, same_column}
 use Rattle.strict_solver.proofs.Directions.{combination-one}
 use Rattle.strict_solver.proofs.Parts.{row_here, row_elsewhere, put_length}
 use Rattle.strict_solver.proofs.PuttingIn.{row_fits}
@@ -61,9 +60,6 @@ module _ (columns : ℕ) (places : List Place) (cells : List ℤ) (p : ArePlaced
       let a = (from_place places v o o e).0 in
       let l : v < columns = (let b = p.count in omega arith) in
       (l, same_place places v o (Column (v + 2)) e (p.each v l))
-
-  same_column : (m n : ℕ) → Column m ≡ Column n → m ≡ n
-  same_column m n e = cc
 
   start-row : (one : ℤ) (vs : List ℤ) (k : ℕ) → k < columns → LineHolds one vs k (line_in places (row_at (columns + 2) cells k))
   start-row one vs k l =

@@ -11,18 +11,10 @@ use Rattle.strict_solver.specs.Grids.{row_at, line_at, lines_by, IsPlacing, IsPi
 use Rattle.strict_solver.proofs.Wide.{all_narrow, zero_not_wide}
 use Rattle.strict_solver.proofs.One.{reduced_same}
 use Rattle.strict_solver.proofs.Elimination.{from_place, same_place}
-use Rattle.strict_solver.proofs.Pivots.{IsTable, pivot-new, pivot-left, in_table}
+use Rattle.strict_solver.proofs.Pivots.{IsTable, pivot-new, pivot-left, pivot-free, pivot-put}
 use Rattle.strict_solver.proofs.Placing.{at_leaving, at_entering, at_others, somewhere, lines-length, line_there, lines-table}
 use Rattle.strict_solver.proofs.Pivoting.{some_place, solved_low, solved_line, put_line, combined_positive}
 use Rattle.strict_solver.proofs.Steps.{step_lines, step-is}
-use Rattle.strict_solver.proofs.Entries.{line_or}
-
-not_both : (o : Option Line) (l : Line) → o ≡ Some l → o ≡ None → ⊥
-not_both o l e f = cc
-
-both_some : (o : Option Line) (k l : Line) → o ≡ Some k → o ≡ Some l → k ≡ l
-unfolding line_or
-both_some o k l e f = ap (line_or k) (sym e ∙ f)
 
 -- ---- wide numbers of a table
 pub first_wide-append : (width : ℕ) (xs ys : List ℤ) → first_wide width xs ≡ None → first_wide width (xs ++ ys) ≡ first_wide width ys
@@ -125,14 +117,14 @@ module _ (columns width : ℕ) (places : List Place) (h : IsPlacing columns plac
 
     next : (z : ℕ) → z < length places → IsNextLine x y (line_in (set (set places x (Column p)) y (Row r)) (row_at (columns + 2) mid r)) z (get_or (lines_by (columns + 2) places old) z None)
         (get_or (lines_by (columns + 2) (set (set places x (Column p)) y (Row r)) now) z None)
-    next z l = by (somewhere columns places h x y r p ex ey z)
+    next z l = by (somewhere places x y r p ex ey z)
       where
         by : (z ≡ x) ⊎ (z ≡ y) ⊎ ((z ≢ x) × (z ≢ y)) → IsNextLine x y (line_in (set (set places x (Column p)) y (Row r)) (row_at (columns + 2) mid r)) z (get_or (lines_by (columns + 2) places old) z None)
             (get_or (lines_by (columns + 2) (set (set places x (Column p)) y (Row r)) now) z None)
-        by (inl e) = inl (e, there z (Column p) (ap (slice_get (set (set places x (Column p)) y (Row r))) e ∙ at_leaving columns places h x y r p ex ey))
+        by (inl e) = inl (e, there z (Column p) (ap (slice_get (set (set places x (Column p)) y (Row r))) e ∙ at_leaving places x y r p ex ey))
         by (inr (inl e)) = inr (inl (
           e,
-          there z (Row r) (ap (slice_get (set (set places x (Column p)) y (Row r))) e ∙ at_entering columns places h x y r p ex ey)
+          there z (Row r) (ap (slice_get (set (set places x (Column p)) y (Row r))) e ∙ at_entering places x y r p ex ey)
               ∙ ap (λ row. Some (line_in (set (set places x (Column p)) y (Row r)) row)) same,
         ))
         by (inr (inr n)) = let o = some_place places z l in on o.0 o.1
@@ -145,10 +137,10 @@ module _ (columns width : ℕ) (places : List Place) (h : IsPlacing columns plac
               n.0,
               n.1,
               before z (Row q) e,
-              there z (Row q) (at_others columns places h x y r p ex ey z n.0 n.1 ∙ e),
+              there z (Row q) (at_others places x y r p ex ey z n.0 n.1 ∙ e),
               put_there z q (row_at (columns + 2) now q) e (done z q e (row_apart z q n.0 e)),
             )))
-            on (Column q) e = inr (inr (inl (n.0, n.1, before z (Column q) e, there z (Column q) (at_others columns places h x y r p ex ey z n.0 n.1 ∙ e))))
+            on (Column q) e = inr (inr (inl (n.0, n.1, before z (Column q) e, there z (Column q) (at_others places x y r p ex ey z n.0 n.1 ∙ e))))
 
     pub grid_pivot : IsPivot x y (lines_by (columns + 2) places old) (lines_by (columns + 2) (set (set places x (Column p)) y (Row r)) now)
     grid_pivot = record {
@@ -196,37 +188,14 @@ module _ (columns width : ℕ) (places : List Place) (h : IsPlacing columns plac
   -- the line of another row in the table after the pivot
   step_other : (v q : ℕ) (new : List ℤ) → v ≢ x → slice_get places v ≡ Some (Row q) → IsCombination (row_at (columns + 2) old q) p (set (row_at (columns + 2) mid r) 0 (pos 0)) (number (row_at (columns + 2) mid r) 0) new
       → get_or (step_lines x y (lines_by (columns + 2) places old)) v None ≡ Some (line_in (set (set places x (Column p)) y (Row r)) new)
-  step_other v q new n e c = by (stepped.lines v within)
-    where
-      here : get_or (lines_by (columns + 2) places old) v None ≡ Some (line_in places (row_at (columns + 2) old q))
-      here = get_line _ v _ (line_there (columns + 2) places old v (Row q) e)
-
-      within : v < length (lines_by (columns + 2) places old)
-      within = in_table (lines_by (columns + 2) places old) v _ here
-
-      by : IsNextLine x y stepped.new v (get_or (lines_by (columns + 2) places old) v None) (get_or (step_lines x y (lines_by (columns + 2) places old)) v None)
-          → get_or (step_lines x y (lines_by (columns + 2) places old)) v None ≡ Some (line_in (set (set places x (Column p)) y (Row r)) new)
-      by (inl f) = absurd (n f.0)
-      by (inr (inl f)) = let g : Row q ≡ Column p = same_place places y _ _ (subst (λ k. slice_get places k ≡ Some (Row q)) f.0 e) ey in cc
-      by (inr (inr (inl f))) = absurd (not_both _ _ here f.2)
-      by (inr (inr (inr f))) =
-          let g : f.0 ≡ line_in places (row_at (columns + 2) old q) = both_some _ _ _ f.4 here in
-          let P : Line → Type 0 = λ k. IsReduced (with_put_in k y stepped.new) f.1 in
-          let Q : Line → Type 0 = λ k. IsReduced (with_put_in (line_in places (row_at (columns + 2) old q)) y k) f.1 in
-          f.5 ∙ ap Some (reduced_same (with_put_in (line_in places (row_at (columns + 2) old q)) y (line_in (set (set places x (Column p)) y (Row r)) (row_at (columns + 2) mid r))) f.1 (line_in (set (set places x (Column p)) y (Row r)) new)
-          (subst Q step_new (subst P g f.6)) (put_there v q new e c))
+  step_other v q new n e c =
+      let h = pivot-put x y _ _ stepped v (line_in places (row_at (columns + 2) old q)) (get_line _ v _ (line_there (columns + 2) places old v (Row q) e)) n in
+      let P : Line → Type 0 = λ k. IsReduced (with_put_in (line_in places (row_at (columns + 2) old q)) y k) h.0 in
+      h.1 ∙ ap Some (reduced_same (with_put_in (line_in places (row_at (columns + 2) old q)) y (line_in (set (set places x (Column p)) y (Row r)) (row_at (columns + 2) mid r))) h.0 (line_in (set (set places x (Column p)) y (Row r)) new)
+      (subst P step_new h.2) (put_there v q new e c))
 
   step_none : (v q : ℕ) → v ≢ y → slice_get places v ≡ Some (Column q) → get_or (step_lines x y (lines_by (columns + 2) places old)) v None ≡ None
-  step_none v q n e = by (stepped.lines v (let a = lines-length (columns + 2) places old in let b = (from_place places v (Row 0) (Column q) e).0 in omega arith))
-    where
-      here : get_or (lines_by (columns + 2) places old) v None ≡ None
-      here = get_line _ v _ (line_there (columns + 2) places old v (Column q) e)
-
-      by : IsNextLine x y stepped.new v (get_or (lines_by (columns + 2) places old) v None) (get_or (step_lines x y (lines_by (columns + 2) places old)) v None) → get_or (step_lines x y (lines_by (columns + 2) places old)) v None ≡ None
-      by (inl f) = f.1
-      by (inr (inl f)) = absurd (n f.0)
-      by (inr (inr (inl f))) = f.3
-      by (inr (inr (inr f))) = absurd (not_both _ _ f.4 here)
+  step_none v q n e = pivot-free x y _ _ stepped v (get_line _ v _ (line_there (columns + 2) places old v (Column q) e)) n
 
   module _ (number_wide : ℤ) (v q : ℕ) (e : slice_get places v ≡ Some (Row q)) (apart : q ≢ r) (row : List ℤ)
       (c : IsCombination (row_at (columns + 2) old q) p (set (row_at (columns + 2) mid r) 0 (pos 0)) (number (row_at (columns + 2) mid r) 0) row)
@@ -237,7 +206,7 @@ module _ (columns width : ℕ) (places : List Place) (h : IsPlacing columns plac
     v_apart f = let g : Row q ≡ Row r = same_place places x _ _ (subst (λ k. slice_get places k ≡ Some (Row q)) f e) ex in apart (let i : q ≡ r = cc in i)
 
     narrow_before : (u : ℕ) → u < v → first_wide width (line_or_nothing (get_or (step_lines x y (lines_by (columns + 2) places old)) u None)) ≡ None
-    narrow_before u l = by (somewhere columns places h x y r p ex ey u)
+    narrow_before u l = by (somewhere places x y r p ex ey u)
       where
         by : (u ≡ x) ⊎ (u ≡ y) ⊎ ((u ≢ x) × (u ≢ y)) → first_wide width (line_or_nothing (get_or (step_lines x y (lines_by (columns + 2) places old)) u None)) ≡ None
         by (inl f) = ap (λ k. first_wide width (line_or_nothing k)) (ap (λ k. get_or (step_lines x y (lines_by (columns + 2) places old)) k None) f ∙ pivot-left x y _ _ stepped)

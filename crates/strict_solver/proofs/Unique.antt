@@ -1,20 +1,20 @@
 -- A table is determined by its basic variables and by the values at which its rows hold.
-use Rattle.std.proofs.Common.{◌≡◌, ◌≢◌, ℕ, ◌<◌, ◌⊎◌, inl, inr, refl, sym, ap, ◌∙◌, arith, ℤ, pos, negsuc, ◌+ℤ◌, ◌*ℤ◌, ◌<ℤ◌, List, [], ◌∷◌, map, length, get_or, Some, None, Option}
+use Rattle.std.proofs.Common.{◌≡◌, ◌≢◌, ℕ, ◌<◌, ◌⊎◌, inl, inr, refl, sym, ap, ◌∙◌, arith, ℤ, pos, negsuc, ◌+ℤ◌, ◌*ℤ◌, ◌<ℤ◌, List, [], ◌∷◌, map, length, get_or, Some, None, Option, suc}
 use Rattle.std.specs.Prelude.{is_none}
 use Rattle.std.proofs.lemmas.Int.{ints}
-use Rattle.std.proofs.lemmas.List.{get_or_default, get_or-map, same_lists}
-use Rattle.ntfe_nums.proofs.Ring.{ring}
+use Rattle.std.proofs.lemmas.List.{get_or_default, same_lists}
+use Rattle.ntfe_nums.proofs.Ring.{ring, sum_zero}
 use Rattle.ntfe_nums.proofs.Ring.Expression.{var, num, plus, minus, times}
 use Rattle.ntfe_model.specs.Solver.{Line, coefficient_at, line_numbers, IsReduced}
 use Rattle.strict_solver.specs.Equations.{combination, Holds}
 use Rattle.strict_solver.specs.Continuing.{IsLowest}
-use Rattle.strict_solver.proofs.Forms.{back, length_mapped}
+use Rattle.strict_solver.proofs.Forms.{back}
 use Rattle.strict_solver.proofs.One.{reduced_same}
-use Rattle.strict_solver.proofs.Pivots.{IsTable}
-use Rattle.strict_solver.proofs.Values.{common, values_by, common-positive, length-values, value-none, values-hold, combination-none}
-use Rattle.strict_solver.proofs.Following.{AreLowest}
-use Rattle.strict_solver.proofs.Directions.{combination-one, IsDirection, direction_values, direction}
+use Rattle.strict_solver.proofs.Pivots.{IsTable, AreLowest}
+use Rattle.strict_solver.proofs.Values.{common, values_by, common-positive, length-values, values-hold, values-sum}
+use Rattle.strict_solver.proofs.Directions.{IsDirection, direction_values, direction, direction-sum}
 use Rattle.strict_solver.proofs.Entries.{basic_or_not}
+use Rattle.ntfe_nums.proofs.Signs.{product_exchanged}
 
 pub cancel : (m p q : ℤ) → m ≢ pos 0 → m *ℤ p ≡ m *ℤ q → p ≡ q
 cancel m p q n e = back (m *ℤ p) (m *ℤ q) m p q n (ring (m ∷ p ∷ q ∷ []) (minus (times (var 0) (var 1)) (times (var 0) (var 2))) (times (var 0) (minus (var 1) (var 2))) refl) e
@@ -28,6 +28,12 @@ proportion d g a b m v n e f =
     ∙ ap (λ z. d *ℤ z) f
     ∙ ring (m ∷ d ∷ b ∷ []) (times (var 1) (times (var 2) (var 0))) (times (var 0) (times (var 1) (var 2))) refl)
 
+pub proportional-lists : (a b : ℤ) (xs ys : List ℤ) → length xs ≡ length ys → ((k : ℕ) → k < length xs → a *ℤ get_or xs k (pos 0) ≡ b *ℤ get_or ys k (pos 0)) → map (λ z. a *ℤ z) xs ≡ map (λ z. b *ℤ z) ys
+proportional-lists a b [] [] l h = refl
+proportional-lists a b [] (y ∷ ys) l h = absurd (omega arith)
+proportional-lists a b (x ∷ xs) [] l h = absurd (omega arith)
+proportional-lists a b (x ∷ xs) (y ∷ ys) l h = λ i. h 0 (omega arith) i ∷ proportional-lists a b xs ys (omega arith) (λ k g. h (suc k) (omega arith)) i
+
 -- lines in lowest form that are proportional are equal
 pub proportional-same : (r q : Line) → pos 0 <ℤ r.d → pos 0 <ℤ q.d → IsLowest r → IsLowest q → map (λ z. q.d *ℤ z) (line_numbers r) ≡ map (λ z. r.d *ℤ z) (line_numbers q) → r ≡ q
 proportional-same r q pr pq lr lq same = reduced_same (record { d = q.d *ℤ r.d; c = q.d *ℤ r.c; coefficients = map (λ z. q.d *ℤ z) r.coefficients }) r q (at q.d pq refl) (on r.d pr refl)
@@ -40,7 +46,7 @@ proportional-same r q pr pq lr lq same = reduced_same (record { d = q.d *ℤ r.d
     on (negsuc k) n e = absurd (omega (arith, ints))
     on (pos k) n e = record { k = k; factor = omega (arith, ints); same = same ∙ ap (λ t. map (λ z. t *ℤ z) (line_numbers q)) e; positive = pq; lowest = lq }
 
-as_none : (o p : Option Line) → is_none o ≡ is_none p → p ≡ None → o ≡ None
+pub as_none : (o p : Option Line) → is_none o ≡ is_none p → p ≡ None → o ≡ None
 as_none None p a b = refl
 as_none (Some o) None a b = cc
 as_none (Some o) (Some p) a b = cc
@@ -53,29 +59,22 @@ as_some (Some o) None r a b = cc
 pub zero_left : (c a : ℤ) → c *ℤ pos 0 +ℤ a ≡ a
 zero_left c a = ring (c ∷ a ∷ []) (plus (times (var 0) (num (pos 0))) (var 1)) (var 1) refl
 
-pub zero_right : (c : ℤ) → c +ℤ pos 0 ≡ c
-zero_right c = omega (arith, ints)
-
 module _ (s t : List (Option Line)) (len : length s ≡ length t) (ws : IsTable s) (wt : IsTable t) (ls : AreLowest s) (lt : AreLowest t) (basics : (z : ℕ) → is_none (get_or s z None) ≡ is_none (get_or t z None))
     (same : (one : ℤ) (vs : List ℤ) → length vs ≡ length s → Holds one vs s → Holds one vs t) where
   module _ (z : ℕ) (r q : Line) (er : get_or s z None ≡ Some r) (eq : get_or t z None ≡ Some q) where
+    -- the line of t has 0 at what is basic in s
+    there : (k : ℕ) (o : Line) → get_or s k None ≡ Some o → coefficient_at q k ≡ pos 0
+    there k o e = let h = as_some (get_or s k None) (get_or t k None) o (basics k) e in (wt z q eq).zeros k h.0 h.1
+
     constants : q.d *ℤ r.c ≡ r.d *ℤ q.c
     constants =
         proportion r.d q.d r.c q.c (pos 1 *ℤ common s) (get_or (values_by (pos 1) s) z (pos 0)) some
-        (values-hold (pos 1) s ws z r er ∙ ap (λ k. r.c *ℤ (pos 1 *ℤ common s) +ℤ k) (combination-none r.coefficients (values_by (pos 1) s) (λ k. in_s k (basic_or_not (get_or s k None)))) ∙ zero_right (r.c *ℤ (pos 1 *ℤ common s)))
+        (values-hold (pos 1) s ws z r er ∙ ap (λ k. r.c *ℤ (pos 1 *ℤ common s) +ℤ k) (values-sum (pos 1) s r.coefficients (ws z r er).zeros) ∙ sum_zero (r.c *ℤ (pos 1 *ℤ common s)))
         (same (pos 1 *ℤ common s) (values_by (pos 1) s) (length-values (pos 1) s) (values-hold (pos 1) s ws) z q eq
-        ∙ ap (λ k. q.c *ℤ (pos 1 *ℤ common s) +ℤ k) (combination-none q.coefficients (values_by (pos 1) s) (λ k. in_t k (basic_or_not (get_or t k None)))) ∙ zero_right (q.c *ℤ (pos 1 *ℤ common s)))
+        ∙ ap (λ k. q.c *ℤ (pos 1 *ℤ common s) +ℤ k) (values-sum (pos 1) s q.coefficients there) ∙ sum_zero (q.c *ℤ (pos 1 *ℤ common s)))
       where
         some : pos 1 *ℤ common s ≢ pos 0
         some e = let a = common-positive s (λ z r e. (ws z r e).positive) in let b : pos 1 *ℤ common s ≡ common s = ring (common s ∷ []) (times (num (pos 1)) (var 0)) (var 0) refl in omega (arith, ints)
-
-        in_s : (k : ℕ) → ((o : Line) × (get_or s k None ≡ Some o)) ⊎ (get_or s k None ≡ None) → (get_or r.coefficients k (pos 0) ≡ pos 0) ⊎ (get_or (values_by (pos 1) s) k (pos 0) ≡ pos 0)
-        in_s k (inl h) = inl ((ws z r er).zeros k h.0 h.1)
-        in_s k (inr h) = inr (value-none (pos 1) s k h)
-
-        in_t : (k : ℕ) → ((o : Line) × (get_or t k None ≡ Some o)) ⊎ (get_or t k None ≡ None) → (get_or q.coefficients k (pos 0) ≡ pos 0) ⊎ (get_or (values_by (pos 1) s) k (pos 0) ≡ pos 0)
-        in_t k (inl h) = inl ((wt z q eq).zeros k h.0 h.1)
-        in_t k (inr h) = inr (value-none (pos 1) s k (as_none (get_or s k None) (get_or t k None) (basics k) h))
 
     module _ (b : ℕ) (l : b < length s) (n : get_or s b None ≡ None) where
       vs : List ℤ
@@ -88,21 +87,11 @@ module _ (s t : List (Option Line)) (len : length s ≡ length t) (ws : IsTable 
       free : q.d *ℤ coefficient_at r b ≡ r.d *ℤ coefficient_at q b
       free =
           proportion r.d q.d (coefficient_at r b) (coefficient_at q b) way.size (get_or vs z (pos 0)) some
-          (way.holds z r er ∙ zero_left r.c (combination r.coefficients vs)
-          ∙ combination-one r.coefficients vs b (λ k a. in_s k a (basic_or_not (get_or s k None))) ∙ ap (λ v. coefficient_at r b *ℤ v) way.at)
-          (same (pos 0) vs way.count way.holds z q eq ∙ zero_left q.c (combination q.coefficients vs)
-          ∙ combination-one q.coefficients vs b (λ k a. in_t k a (basic_or_not (get_or t k None))) ∙ ap (λ v. coefficient_at q b *ℤ v) way.at)
+          (way.holds z r er ∙ zero_left r.c (combination r.coefficients vs) ∙ direction-sum s b vs way r.coefficients (ws z r er).zeros)
+          (same (pos 0) vs way.count way.holds z q eq ∙ zero_left q.c (combination q.coefficients vs) ∙ direction-sum s b vs way q.coefficients there)
         where
           some : way.size ≢ pos 0
           some e = let a = way.positive in omega (arith, ints)
-
-          in_s : (k : ℕ) → k ≢ b → ((o : Line) × (get_or s k None ≡ Some o)) ⊎ (get_or s k None ≡ None) → (get_or r.coefficients k (pos 0) ≡ pos 0) ⊎ (get_or vs k (pos 0) ≡ pos 0)
-          in_s k a (inl h) = inl ((ws z r er).zeros k h.0 h.1)
-          in_s k a (inr h) = inr (way.others k a h)
-
-          in_t : (k : ℕ) → k ≢ b → ((o : Line) × (get_or t k None ≡ Some o)) ⊎ (get_or t k None ≡ None) → (get_or q.coefficients k (pos 0) ≡ pos 0) ⊎ (get_or vs k (pos 0) ≡ pos 0)
-          in_t k a (inl h) = inl ((wt z q eq).zeros k h.0 h.1)
-          in_t k a (inr h) = inr (way.others k a (as_none (get_or s k None) (get_or t k None) (basics k) h))
 
     each : (b : ℕ) → b < length s → q.d *ℤ coefficient_at r b ≡ r.d *ℤ coefficient_at q b
     each b l = by (basic_or_not (get_or s b None))
@@ -116,21 +105,11 @@ module _ (s t : List (Option Line)) (len : length s ≡ length t) (ws : IsTable 
             ∙ ap (λ k. r.d *ℤ k) (sym ((wt z q eq).zeros b o.0 o.1))
 
     lines-same : r ≡ q
-    lines-same = proportional-same r q (ws z r er).positive (wt z q eq).positive (ls z r er) (lt z q eq) (λ i. first i ∷ constants i ∷ rest i)
-      where
-        first : q.d *ℤ r.d ≡ r.d *ℤ q.d
-        first = ring (q.d ∷ r.d ∷ []) (times (var 0) (var 1)) (times (var 1) (var 0)) refl
-
-        rest : map (λ z. q.d *ℤ z) r.coefficients ≡ map (λ z. r.d *ℤ z) q.coefficients
-        rest = same_lists (map (λ z. q.d *ℤ z) r.coefficients) (map (λ z. r.d *ℤ z) q.coefficients)
-            (let a = length_mapped (λ z. q.d *ℤ z) r.coefficients in let b = length_mapped (λ z. r.d *ℤ z) q.coefficients in let c = (ws z r er).count in let d = (wt z q eq).count in omega arith)
-            (λ k d l.
-            (let a = length_mapped (λ z. q.d *ℤ z) r.coefficients in
-            let c = (ws z r er).count in
-            let e = (wt z q eq).count in
-            get_or-map (λ z. q.d *ℤ z) r.coefficients k (pos 0) d (omega arith)
-            ∙ each k (omega arith)
-            ∙ sym (get_or-map (λ z. r.d *ℤ z) q.coefficients k (pos 0) d (omega arith))))
+    lines-same =
+        let c = (ws z r er).count in
+        let d = (wt z q eq).count in
+        proportional-same r q (ws z r er).positive (wt z q eq).positive (ls z r er) (lt z q eq)
+        (λ i. product_exchanged q.d r.d i ∷ constants i ∷ proportional-lists q.d r.d r.coefficients q.coefficients (omega arith) (λ k l. each k (omega arith)) i)
 
   pub same-tables : s ≡ t
   same-tables = same_lists s t len (λ k d l. get_or_default s k d None l ∙ at k (basic_or_not (get_or s k None)) ∙ get_or_default t k None d (omega arith))

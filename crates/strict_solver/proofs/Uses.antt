@@ -1,7 +1,6 @@
 -- What a caller needs around a solve.
 use Rattle.std.proofs.Common.{◌≡◌, ℕ, zero, suc, ◌+◌, ◌<◌, refl, sym, ap, ◌∙◌, subst, arith, ℤ, pos, ◌+ℤ◌, ◌*ℤ◌, List, [], ◌∷◌, ◌++◌, map, get_or, Some}
 use Rattle.std.specs.Prelude.{⊤, slice_get, fold}
-use Rattle.std.specs.List.{range_with_len}
 use Rattle.std.proofs.lemmas.Int.{ints}
 use Rattle.ntfe_nums.proofs.Ring.{ring}
 use Rattle.ntfe_nums.proofs.Ring.Expression.{var, plus}
@@ -15,13 +14,7 @@ use Rattle.strict_solver.specs.Answers.{Answer}
 use Rattle.strict_solver.specs.Answers.Answer.{unsolved, feasible, infeasible}
 use Rattle.strict_solver.specs.Starts.{IsFoldOver, AreFoldsOver}
 use Rattle.strict_solver.specs.Solving.{HasSolved, AreMultipliers, weighted_sum}
-
-pub no_folds : (n : ℕ) → AreFoldsOver n []
-no_folds n = record { each = none }
-  where
-    none : (j : ℕ) (f : Fold) → slice_get [] j ≡ Some f → IsFoldOver n f
-    none zero f e = cc
-    none (suc j) f e = cc
+use Rattle.std.proofs.lemmas.List.FromFn.{get_or-map-range_with_len}
 
 pub one_more : (n : ℕ) (fs : List Fold) (g : Fold) → AreFoldsOver n fs → IsFoldOver n g → AreFoldsOver n (fs ++ (g ∷ []))
 one_more n [] g hs h = record { each = more }
@@ -53,16 +46,11 @@ has_multipliers columns rs width Feasible a h e = cc
 has_multipliers columns rs width (Wide step number) a h e = cc
 
 -- ---- the terms of a certificate
-range_cell : (h : ℕ → ℤ) (a n k : ℕ) → k < n → get_or (map h (range_with_len a n)) k (pos 0) ≡ h (a + k)
-range_cell h a zero k l = absurd (omega arith)
-range_cell h a (suc n) zero l = ap h (let e : a ≡ a + 0 = omega arith in e)
-range_cell h a (suc n) (suc k) l = range_cell h (a + 1) n k (omega arith) ∙ ap h (let e : a + 1 + k ≡ a + suc k = omega arith in e)
-
 cell_is : (columns : ℕ) (fs : List Fold) (j : ℕ) (f : Fold) (k : ℕ) → slice_get fs j ≡ Some f → k < columns
     → get_or (get_or (map (fold_row columns) fs) j []) k (pos 0) ≡ fold_coefficient f (1 + k)
 cell_is columns [] zero f k e l = cc
 cell_is columns [] (suc j) f k e l = cc
-cell_is columns (g ∷ fs) zero f k e l = let same : g ≡ f = cc in range_cell (fold_coefficient g) 1 columns k l ∙ ap (λ h. fold_coefficient h (1 + k)) same
+cell_is columns (g ∷ fs) zero f k e l = let same : g ≡ f = cc in get_or-map-range_with_len (fold_coefficient g) 1 columns k (1 + k) (pos 0) l refl ∙ ap (λ h. fold_coefficient h (1 + k)) same
 cell_is columns (g ∷ fs) (suc j) f k e l = cell_is columns fs j f k e l
 
 -- the terms have the multipliers, and the folds of their rows

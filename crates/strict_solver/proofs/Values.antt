@@ -2,39 +2,26 @@
 --     common s      the product of all d of the rows
 --     values s      the value of each variable, times the scale common s
 -- No basis comes twice in the moving: bland is the step of this proof.
-use Rattle.std.proofs.Common.{◌≡◌, ℕ, zero, suc, ◌<◌, ◌≤◌, ◌⊎◌, inl, inr, refl, sym, ap, ◌∙◌, subst, arith, ℤ, pos, negsuc, ◌+ℤ◌, ◌*ℤ◌, neg_ℤ, ◌<ℤ◌, ◌≤ℤ◌, int_lt, List, [], ◌∷◌, length, get_or, Some, None, Option}
+use Rattle.std.proofs.Common.{◌≡◌, ℕ, zero, suc, ◌<◌, ◌≤◌, ◌⊎◌, inl, inr, ⊎_elim, refl, sym, ap, ◌∙◌, subst, arith, ℤ, pos, ◌+ℤ◌, ◌*ℤ◌, neg_ℤ, ◌<ℤ◌, ◌≤ℤ◌, int_lt, List, [], ◌∷◌, length, get_or, Some, None, Option}
 use Rattle.std.proofs.lemmas.Int.{ints}
 use Rattle.ntfe_model.specs.Solver.{Line}
-use Rattle.ntfe_nums.proofs.Ring.{ring, product_zero, zero_product, one_product}
-use Rattle.ntfe_nums.proofs.Ring.Expression.{var, num, plus, times, neg}
+use Rattle.ntfe_nums.proofs.Ring.{ring, product_zero, zero_product, one_product, neg_product, product_neg}
+use Rattle.ntfe_nums.proofs.Ring.Expression.{var, num, plus, times}
 use Rattle.strict_solver.specs.Equations.{combination, Holds}
 use Rattle.strict_solver.proofs.Pivots.{IsTable}
 use Rattle.strict_solver.proofs.Moves.{IsMove, IsFirstSlack, first_slack-found, IsFirstEntering, entering-found, IsGone, int_lt-zero, int_lt-not_zero}
 use Rattle.strict_solver.proofs.Entries.{basic_or_not, line_or}
-use Rattle.ntfe_nums.proofs.Signs.{positive_product, product_not_negative}
+use Rattle.ntfe_nums.proofs.Signs.{negative_or, not_negative, positive_product, product_not_negative, factor_not_negative}
 
 -- ---- signs of products
-neg_product : (a b : ℤ) → a *ℤ neg_ℤ b ≡ neg_ℤ (a *ℤ b)
-neg_product a b = ring (a ∷ b ∷ []) (times (var 0) (neg (var 1))) (neg (times (var 0) (var 1))) refl
-
-neg_left : (a b : ℤ) → neg_ℤ a *ℤ b ≡ neg_ℤ (a *ℤ b)
-neg_left a b = ring (a ∷ b ∷ []) (times (neg (var 0)) (var 1)) (neg (times (var 0) (var 1))) refl
-
 pub product_negative : (a b : ℤ) → pos 0 <ℤ a → b <ℤ pos 0 → (a *ℤ b) <ℤ pos 0
-product_negative a b h i = let p = positive_product a (neg_ℤ b) h (omega (arith, ints)) in let e = neg_product a b in omega (arith, ints)
+product_negative a b h i = let p = positive_product a (neg_ℤ b) h (omega (arith, ints)) in let e = product_neg a b in omega (arith, ints)
 
-pub product_at_most : (a b : ℤ) → a ≤ℤ pos 0 → pos 0 ≤ℤ b → (a *ℤ b) ≤ℤ pos 0
-product_at_most a b h i = let p = product_not_negative (neg_ℤ a) b (omega (arith, ints)) i in let e = neg_left a b in omega (arith, ints)
-
-by_sign : {P : Type 0} (z : ℤ) → (z <ℤ pos 0 → P) → (pos 0 ≤ℤ z → P) → P
-by_sign (pos n) f g = g (omega (arith, ints))
-by_sign (negsuc n) f g = f (omega (arith, ints))
+product_at_most : (a b : ℤ) → a ≤ℤ pos 0 → pos 0 ≤ℤ b → (a *ℤ b) ≤ℤ pos 0
+product_at_most a b h i = let p = product_not_negative (neg_ℤ a) b (omega (arith, ints)) i in let e = neg_product a b in omega (arith, ints)
 
 pub factor_negative : (a b : ℤ) → pos 0 <ℤ a → (a *ℤ b) <ℤ pos 0 → b <ℤ pos 0
-factor_negative a b h i = by_sign b (λ j. j) (λ j. let p = product_not_negative a b (omega (arith, ints)) j in absurd (omega (arith, ints)))
-
-pub factor_at_least : (a b : ℤ) → pos 0 <ℤ a → pos 0 ≤ℤ (a *ℤ b) → pos 0 ≤ℤ b
-factor_at_least a b h i = by_sign b (λ j. let p = product_negative a b h j in absurd (omega (arith, ints))) (λ j. j)
+factor_negative a b h i = ⊎_elim (λ j. j) (λ j. let p = product_not_negative a b (not_negative a h) j in absurd (omega (arith, ints))) (negative_or b)
 
 -- ---- the values
 abbrev pub common : List (Option Line) → ℤ
@@ -78,25 +65,29 @@ common-positive [] h = omega (arith, ints)
 common-positive (None ∷ s) h = common-positive s (λ z r e. h (suc z) r e)
 common-positive (Some q ∷ s) h = positive_product q.d (common s) (h zero q refl) (common-positive s (λ z r e. h (suc z) r e))
 
+pub zero_term : (e v : ℤ) → (e ≡ pos 0) ⊎ (v ≡ pos 0) → e *ℤ v ≡ pos 0
+zero_term e v (inl g) = ap (λ z. z *ℤ v) g ∙ zero_product v
+zero_term e v (inr g) = ap (λ z. e *ℤ z) g ∙ product_zero e
+
 pub combination-none : (es vs : List ℤ) → ((k : ℕ) → (get_or es k (pos 0) ≡ pos 0) ⊎ (get_or vs k (pos 0) ≡ pos 0)) → combination es vs ≡ pos 0
 combination-none [] vs h = refl
 combination-none (e ∷ es) [] h = refl
-combination-none (e ∷ es) (v ∷ vs) h = (λ i. term (h zero) i +ℤ combination-none es vs (λ k. h (suc k)) i)
+combination-none (e ∷ es) (v ∷ vs) h = (λ i. zero_term e v (h zero) i +ℤ combination-none es vs (λ k. h (suc k)) i)
+
+-- a line with 0 at the basic variables
+pub values-sum : (m : ℤ) (s : List (Option Line)) (es : List ℤ) → ((k : ℕ) (o : Line) → get_or s k None ≡ Some o → get_or es k (pos 0) ≡ pos 0) → combination es (values_by m s) ≡ pos 0
+values-sum m s es h = combination-none es (values_by m s) (λ k. at k (basic_or_not (get_or s k None)))
   where
-    term : (e ≡ pos 0) ⊎ (v ≡ pos 0) → e *ℤ v ≡ pos 0
-    term (inl g) = ap (λ z. z *ℤ v) g ∙ zero_product v
-    term (inr g) = ap (λ z. e *ℤ z) g ∙ product_zero e
+    at : (k : ℕ) → ((o : Line) × (get_or s k None ≡ Some o)) ⊎ (get_or s k None ≡ None) → (get_or es k (pos 0) ≡ pos 0) ⊎ (get_or (values_by m s) k (pos 0) ≡ pos 0)
+    at k (inl o) = inl (h k o.0 o.1)
+    at k (inr o) = inr (value-none m s k o)
 
 -- the values solve the rows
 pub values-hold : (m : ℤ) (s : List (Option Line)) → IsTable s → Holds (m *ℤ common s) (values_by m s) s
 values-hold m s w z r e =
     value-some m s z r e
     ∙ ring (m ∷ common s ∷ r.c ∷ []) (times (times (var 0) (var 1)) (var 2)) (plus (times (var 2) (times (var 0) (var 1))) (num (pos 0))) refl
-    ∙ ap (λ k. r.c *ℤ (m *ℤ common s) +ℤ k) (sym (combination-none r.coefficients (values_by m s) (λ k. at k (basic_or_not (get_or s k None)))))
-  where
-    at : (k : ℕ) → ((q : Line) × (get_or s k None ≡ Some q)) ⊎ (get_or s k None ≡ None) → (get_or r.coefficients k (pos 0) ≡ pos 0) ⊎ (get_or (values_by m s) k (pos 0) ≡ pos 0)
-    at k (inl h) = inl ((w z r e).zeros k h.0 h.1)
-    at k (inr h) = inr (value-none m s k h)
+    ∙ ap (λ k. r.c *ℤ (m *ℤ common s) +ℤ k) (sym (values-sum m s r.coefficients (w z r e).zeros))
 
 -- a sum without positive terms, with a negative one
 pub combination-at_most : (es vs : List ℤ) → ((k : ℕ) → (get_or es k (pos 0) *ℤ get_or vs k (pos 0)) ≤ℤ pos 0) → combination es vs ≤ℤ pos 0
@@ -141,12 +132,9 @@ module _ (columns : ℕ) (a b : List (Option Line)) (wa : IsTable a) (wb : IsTab
     where
       by : ((r : Line) × (get_or a k None ≡ Some r)) ⊎ (get_or a k None ≡ None) → pos 0 ≤ℤ get_or (values a) k (pos 0)
       by (inl h) =
-          factor_at_least h.0.d (get_or (values a) k (pos 0)) (wa k h.0 h.1).positive
+          factor_not_negative h.0.d (get_or (values a) k (pos 0)) (wa k h.0 h.1).positive
           (let P : ℤ → Type 0 = λ z. pos 0 ≤ℤ z in
-          subst P (sym (value-some (pos 1) a k h.0 h.1)) (product_not_negative (pos 1 *ℤ common a) h.0.c (weak _ positive) (int_lt-not_zero _ (at_leaving.first k h.0 c l h.1))))
-        where
-          weak : (z : ℤ) → pos 0 <ℤ z → pos 0 ≤ℤ z
-          weak z g = omega (arith, ints)
+          subst P (sym (value-some (pos 1) a k h.0 h.1)) (product_not_negative (pos 1 *ℤ common a) h.0.c (not_negative _ positive) (int_lt-not_zero _ (at_leaving.first k h.0 c l h.1))))
       by (inr h) = let e = value-none (pos 1) a k h in omega (arith, ints)
 
   term : (k : ℕ) → (get_or at_entering.row.coefficients k (pos 0) *ℤ get_or (values a) k (pos 0)) ≤ℤ pos 0

@@ -1,18 +1,24 @@
 -- A line over one more variable, which comes last and which the line does not have.
 --     solved-wider, put_in-wider, reduced-wider      what a pivot makes of such lines
 --     reduced-kept                                   where a line has 0 at the variable that is put in, it stays
-use Rattle.std.proofs.Common.{◌≡◌, ◌≢◌, ℕ, zero, suc, ◌<◌, refl, sym, ap, ◌∙◌, subst, arith, ℤ, pos, negsuc, ◌+ℤ◌, ◌*ℤ◌, neg_ℤ, ◌<ℤ◌, List, [], ◌∷◌, ◌++◌, map, length, length-append, get_or, set, get_or-set_other}
-use Rattle.std.specs.Prelude.{zip, unsigned_abs}
+use Rattle.std.proofs.Common.{◌≡◌, ℕ, zero, suc, ◌<◌, refl, sym, ap, ◌∙◌, subst, arith, ℤ, pos, negsuc, ◌+ℤ◌, ◌*ℤ◌, neg_ℤ, ◌<ℤ◌, List, [], ◌∷◌, ◌++◌, map, length, length-append, get_or, set, Some, None, Option, length-set}
+use Rattle.std.specs.Prelude.{zip, unsigned_abs, is_none}
 use Rattle.std.specs.Int.{◌∣◌}
 use Rattle.std.proofs.lemmas.Int.{ints}
-use Rattle.std.proofs.lemmas.List.{get_or_append_left}
+use Rattle.std.proofs.lemmas.List.{get_or_append_left, length-map}
 use Rattle.ntfe_nums.specs.Vectors.{sign}
 use Rattle.ntfe_nums.proofs.Ring.{ring, product_zero}
 use Rattle.ntfe_nums.proofs.Ring.Expression.{var, num, plus, times}
 use Rattle.ntfe_model.specs.Solver.{Line, coefficient_at, solved_for, with_put_in, line_numbers, IsReduced}
-use Rattle.strict_solver.specs.Continuing.{wider, IsLowest}
-use Rattle.strict_solver.proofs.Forms.{zero_factor, reduced_parts, pos_some}
-use Rattle.strict_solver.proofs.Pivots.{coefficient-put_in}
+use Rattle.strict_solver.specs.Continuing.{wider, IsLowest, wider_line}
+use Rattle.ntfe_nums.proofs.Signs.{product_exchanged}
+
+pub no_terms : (a f : ℤ) → pos 0 *ℤ a +ℤ f *ℤ pos 0 ≡ pos 0
+no_terms a f = ring (a ∷ f ∷ []) (plus (times (num (pos 0)) (var 0)) (times (var 1) (num (pos 0)))) (num (pos 0)) refl
+
+pub wider_none : (o : Option Line) → is_none (wider_line o) ≡ is_none o
+wider_none None = refl
+wider_none (Some r) = refl
 
 pub zero_after : (es : List ℤ) (y : ℕ) → get_or (es ++ pos 0 ∷ []) y (pos 0) ≡ get_or es y (pos 0)
 zero_after [] zero = refl
@@ -28,15 +34,6 @@ set-wider : (es : List ℤ) (y : ℕ) (v : ℤ) → y < length es → set (es ++
 set-wider [] y v l = absurd (omega arith)
 set-wider (e ∷ es) zero v l = refl
 set-wider (e ∷ es) (suc y) v l = ap (λ zs. e ∷ zs) (set-wider es y v (omega arith))
-
-set-length : (es : List ℤ) (y : ℕ) (v : ℤ) → length (set es y v) ≡ length es
-set-length [] y v = refl
-set-length (e ∷ es) zero v = refl
-set-length (e ∷ es) (suc y) v = ap suc (set-length es y v)
-
-map-length : (f : ℤ → ℤ) (es : List ℤ) → length (map f es) ≡ length es
-map-length f [] = refl
-map-length f (e ∷ es) = ap suc (map-length f es)
 
 zipped-wider : (g : ℤ × ℤ → ℤ) (xs ys : List ℤ) → length xs ≡ length ys → g (pos 0, pos 0) ≡ pos 0 → map g (zip (xs ++ pos 0 ∷ []) (ys ++ pos 0 ∷ [])) ≡ map g (zip xs ys) ++ pos 0 ∷ []
 zipped-wider g [] [] l h = ap (λ z. z ∷ []) h
@@ -64,8 +61,8 @@ solved-wider r x y lx ly = ap by (zero_after r.coefficients y) ∙ (λ i. record
         ≡ set (set (map (λ e. neg_ℤ (sign (coefficient_at r y) *ℤ e)) r.coefficients) y (pos 0)) x (sign (coefficient_at r y) *ℤ r.d) ++ pos 0 ∷ []
     all =
         let f : ℤ → ℤ = λ e. neg_ℤ (sign (coefficient_at r y) *ℤ e) in
-        let l = map-length f r.coefficients in
-        let k = set-length (map f r.coefficients) y (pos 0) in
+        let l = length-map r.coefficients f in
+        let k = length-set (map f r.coefficients) y (pos 0) in
         ap (λ zs. set (set zs y (pos 0)) x (sign (coefficient_at r y) *ℤ r.d)) (mapped-wider f r.coefficients (neg_zero (sign (coefficient_at r y))))
         ∙ ap (λ zs. set zs x (sign (coefficient_at r y) *ℤ r.d)) (set-wider (map f r.coefficients) y (pos 0) (omega arith))
         ∙ set-wider (set (map f r.coefficients) y (pos 0)) x (sign (coefficient_at r y) *ℤ r.d) (omega arith)
@@ -82,15 +79,12 @@ put_in-wider q y m ly l =
       coefficients = map (λ e. e.0 *ℤ m.d +ℤ f *ℤ e.1) (zip (set (q.coefficients ++ pos 0 ∷ []) y (pos 0)) (m.coefficients ++ pos 0 ∷ []));
     }
 
-    none : (a f : ℤ) → pos 0 *ℤ a +ℤ f *ℤ pos 0 ≡ pos 0
-    none a f = ring (a ∷ f ∷ []) (plus (times (num (pos 0)) (var 0)) (times (var 1) (num (pos 0)))) (num (pos 0)) refl
-
     all : map (λ (e : ℤ × ℤ). e.0 *ℤ m.d +ℤ coefficient_at q y *ℤ e.1) (zip (set (q.coefficients ++ pos 0 ∷ []) y (pos 0)) (m.coefficients ++ pos 0 ∷ []))
         ≡ map (λ (e : ℤ × ℤ). e.0 *ℤ m.d +ℤ coefficient_at q y *ℤ e.1) (zip (set q.coefficients y (pos 0)) m.coefficients) ++ pos 0 ∷ []
     all =
         let g : ℤ × ℤ → ℤ = λ e. e.0 *ℤ m.d +ℤ coefficient_at q y *ℤ e.1 in
         ap (λ zs. map g (zip zs (m.coefficients ++ pos 0 ∷ []))) (set-wider q.coefficients y (pos 0) ly)
-        ∙ zipped-wider g (set q.coefficients y (pos 0)) m.coefficients (set-length q.coefficients y (pos 0) ∙ l) (none m.d (coefficient_at q y))
+        ∙ zipped-wider g (set q.coefficients y (pos 0)) m.coefficients (length-set q.coefficients y (pos 0) ∙ l) (no_terms m.d (coefficient_at q y))
 
 pub reduced-wider : (raw r : Line) → IsReduced raw r → IsReduced (wider raw) (wider r)
 reduced-wider raw r h = record {
@@ -125,11 +119,8 @@ reduced-kept q y m z l p n low = at m.d n refl
     plain : (a k f b : ℤ) → f ≡ pos 0 → a *ℤ k +ℤ f *ℤ b ≡ k *ℤ a
     plain a k f b e = ap (λ t. a *ℤ k +ℤ t *ℤ b) e ∙ ring (a ∷ k ∷ b ∷ []) (plus (times (var 0) (var 1)) (times (num (pos 0)) (var 2))) (times (var 1) (var 0)) refl
 
-    swap : (a k : ℤ) → a *ℤ k ≡ k *ℤ a
-    swap a k = ring (a ∷ k ∷ []) (times (var 0) (var 1)) (times (var 1) (var 0)) refl
-
     same : line_numbers (with_put_in q y m) ≡ map (λ z. m.d *ℤ z) (line_numbers q)
-    same = λ i. swap q.d m.d i ∷ plain q.c m.d (coefficient_at q y) m.c z i ∷ rest i
+    same = λ i. product_exchanged q.d m.d i ∷ plain q.c m.d (coefficient_at q y) m.c z i ∷ rest i
       where
         rest : map (λ (e : ℤ × ℤ). e.0 *ℤ m.d +ℤ coefficient_at q y *ℤ e.1) (zip (set q.coefficients y (pos 0)) m.coefficients) ≡ map (λ z. m.d *ℤ z) q.coefficients
         rest =
@@ -140,38 +131,3 @@ reduced-kept q y m z l p n low = at m.d n refl
     at : (k : ℤ) → pos 0 <ℤ k → m.d ≡ k → IsReduced (with_put_in q y m) q
     at (negsuc k) n e = absurd (omega (arith, ints))
     at (pos k) n e = record { k = k; factor = omega (arith, ints); same = same ∙ ap (λ t. map (λ z. t *ℤ z) (line_numbers q)) e; positive = p; lowest = low }
-
--- ---- a variable that no line of a pivot has
-scaled-get : (f : ℤ → ℤ) (es : List ℤ) (j : ℕ) → f (pos 0) ≡ pos 0 → get_or (map f es) j (pos 0) ≡ f (get_or es j (pos 0))
-scaled-get f [] j h = sym h
-scaled-get f (e ∷ es) zero h = refl
-scaled-get f (e ∷ es) (suc j) h = scaled-get f es j h
-
-pub reduced-clear : (raw r : Line) (j : ℕ) → IsReduced raw r → coefficient_at raw j ≡ pos 0 → coefficient_at r j ≡ pos 0
-reduced-clear raw r j h e =
-    zero_factor (pos h.k) (coefficient_at r j) (pos_some h.k h.factor)
-    (sym (scaled-get (λ z. pos h.k *ℤ z) r.coefficients j (product_zero (pos h.k))) ∙ sym (ap (λ es. get_or es j (pos 0)) (reduced_parts raw r h).2) ∙ e)
-
-pub solved-clear : (r m : Line) (x y j : ℕ) → IsReduced (solved_for r x y) m → j ≢ x → j ≢ y → coefficient_at r j ≡ pos 0 → coefficient_at m j ≡ pos 0
-solved-clear r m x y j h nx ny e = reduced-clear (solved_for r x y) m j h raw
-  where
-    raw : coefficient_at (solved_for r x y) j ≡ pos 0
-    raw =
-        let f : ℤ → ℤ = λ e. neg_ℤ (sign (coefficient_at r y) *ℤ e) in
-        get_or-set_other (set (map f r.coefficients) y (pos 0)) x j (sign (coefficient_at r y) *ℤ r.d) (pos 0) nx
-        ∙ get_or-set_other (map f r.coefficients) y j (pos 0) (pos 0) ny
-        ∙ scaled-get f r.coefficients j (neg_zero (sign (coefficient_at r y)))
-        ∙ ap f e ∙ neg_zero (sign (coefficient_at r y))
-
-pub put_in-clear : (q m r : Line) (y j : ℕ) → IsReduced (with_put_in q y m) r → j ≢ y → j < length q.coefficients → j < length m.coefficients → coefficient_at q j ≡ pos 0 → coefficient_at m j ≡ pos 0
-    → coefficient_at r j ≡ pos 0
-put_in-clear q m r y j h ny lq lm eq em = reduced-clear (with_put_in q y m) r j h raw
-  where
-    zero_sum : (a f : ℤ) → pos 0 *ℤ a +ℤ f *ℤ pos 0 ≡ pos 0
-    zero_sum a f = ring (a ∷ f ∷ []) (plus (times (num (pos 0)) (var 0)) (times (var 1) (num (pos 0)))) (num (pos 0)) refl
-
-    raw : coefficient_at (with_put_in q y m) j ≡ pos 0
-    raw =
-        coefficient-put_in q m y j lq lm
-        ∙ (λ i. (get_or-set_other q.coefficients y j (pos 0) (pos 0) ny ∙ eq) i *ℤ m.d +ℤ coefficient_at q y *ℤ em i)
-        ∙ zero_sum m.d (coefficient_at q y)

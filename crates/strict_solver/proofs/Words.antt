@@ -1,11 +1,8 @@
 -- Small numbers in words of 64 bits.
-use Rattle.std.proofs.Common.{◌≡◌, ℕ, zero, suc, ◌-◌, ◌*◌, ◌^◌, ◌<◌, ◌≤◌, refl, sym, ap, ◌∙◌, arith, mul-le-mul, subst, Bool, true, false, not, T, ◌≤ℤ◌, ◌≢◌, ◌⊎◌, inl, inr, List, length, set, length-set, get_or-set_same, get_or-set_other, ℤ, pos, negsuc, ◌+ℤ◌, ◌-ℤ◌, ◌*ℤ◌, neg_ℤ, ◌<ℤ◌, [], ◌∷◌, unsigned_abs, to_z, of_z, w64, FitsSigned}
+use Rattle.std.proofs.Common.{◌≡◌, ℕ, ◌-◌, ◌*◌, ◌^◌, ◌<◌, ◌≤◌, sym, ap, ◌∙◌, arith, mul-le-mul, subst, Bool, true, false, not, T, ◌≤ℤ◌, ◌≢◌, ◌⊎◌, inl, inr, List, length, set, length-set, get_or-set_same, get_or-set_other, ℤ, pos, ◌+ℤ◌, ◌-ℤ◌, ◌*ℤ◌, ◌<ℤ◌, unsigned_abs, to_z, of_z, w64, FitsSigned}
 use Rattle.std.specs.Bool.{MatchBool}
 use Rattle.std.specs.Int.Signed.{lt_z, lt_z_yes, lt_z_no}
 use Rattle.std.proofs.lemmas.Int.{ints, unsigned_abs-mul, fits_signed_from_abs}
-use Rattle.ntfe_nums.specs.Vectors.{sign}
-use Rattle.ntfe_nums.proofs.Ring.{ring}
-use Rattle.ntfe_nums.proofs.Ring.Expression.{var, num, times, neg}
 use Rattle.strict_solver.specs.Rows.{number}
 use Rattle.strict_solver.proofs.Rows.{number_past}
 use Rattle.strict_solver.proofs.ShortRows.{word64}
@@ -20,15 +17,6 @@ pub product_word : (a b : ℤ) → unsigned_abs a < 2 ^ 30 → unsigned_abs b < 
 product_word a b h i =
     (λ t. to_z w64 (of_z w64 (word64 a (let x : unsigned_abs a < 2 ^ 63 = omega arith in x) t *ℤ word64 b (let x : unsigned_abs b < 2 ^ 63 = omega arith in x) t)))
     ∙ word64 (a *ℤ b) (let s = product_size a b h i in omega arith)
-
-pub by_sign : (s z : ℤ) → pos 0 <ℤ s → sign s *ℤ z ≡ z
-by_sign (pos (suc n)) z h = ring (z ∷ []) (times (num (pos 1)) (var 0)) (var 0) refl
-by_sign (pos zero) z h = absurd (omega (arith, ints))
-by_sign (negsuc n) z h = absurd (omega (arith, ints))
-
-pub by_negative : (s z : ℤ) → s <ℤ pos 0 → sign s *ℤ z ≡ neg_ℤ z
-by_negative (pos n) z h = absurd (omega (arith, ints))
-by_negative (negsuc n) z h = ring (z ∷ []) (times (num (negsuc 0)) (var 0)) (neg (var 0)) refl
 
 -- differences and sums of what is well below the size of a word
 pub difference_word : (x y : ℤ) → unsigned_abs x < 2 ^ 60 → unsigned_abs y < 2 ^ 60 → to_z w64 (of_z w64 (to_z w64 (of_z w64 x) -ℤ to_z w64 (of_z w64 y))) ≡ x -ℤ y

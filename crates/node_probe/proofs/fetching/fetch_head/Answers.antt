@@ -2,7 +2,8 @@ use Rattle.std.proofs.Common.{below_more, ◌∙◌, refl, sym, ap, subst, arith
 use Rattle.ntfe_model.specs.Shapes.{Shape}
 use Rattle.ntfe_model.specs.Books.{KeepsItem}
 use Rattle.ntfe_model.specs.Words.{HasItem}
-use Rattle.node_probe.proofs.KeyLemmas.{key_low, kept_both, head_kept, match_true, match_false}
+use Rattle.ntfe_model.proofs.Books.{keeps_all_in_turn}
+use Rattle.node_probe.proofs.KeyLemmas.{key_low, head_kept, match_true, match_false}
 use Rattle.node_probe.proofs.fetching.fetch_head.Goals as goal
 
 pub loop-face-init : goal.loop-face-init
@@ -27,13 +28,13 @@ pub returns-in_err-has_item-clause-shape : goal.returns-in_err-has_item-clause-s
 returns-in_err-has_item-clause-shape g c = c.has_item.ensures.shape ∙ c.loop-face.invariant.0
 
 pub returns-in_err-has_item-clause-kept : goal.returns-in_err-has_item-clause-kept
-returns-in_err-has_item-clause-kept g c = kept_both (g.B.Book.keeps c.args.book.now) (g.B.Book.keeps c.loop-face.book) (g.B.Book.keeps c.has_item.new.book) c.loop-face.invariant.1 c.has_item.ensures.kept
+returns-in_err-has_item-clause-kept g c = keeps_all_in_turn (g.B.Book.keeps c.args.book.now) (g.B.Book.keeps c.loop-face.book) (g.B.Book.keeps c.has_item.new.book) c.loop-face.invariant.1 c.has_item.ensures.kept
 
 pub returns-then-not-branch-clause-shape : goal.returns-then-not-branch-clause-shape
 returns-then-not-branch-clause-shape g c = c.has_item.ensures.shape ∙ c.loop-face.invariant.0
 
 pub returns-then-not-branch-clause-kept : goal.returns-then-not-branch-clause-kept
-returns-then-not-branch-clause-kept g c = kept_both (g.B.Book.keeps c.args.book.now) (g.B.Book.keeps c.loop-face.book) (g.B.Book.keeps c.has_item.new.book) c.loop-face.invariant.1 c.has_item.ensures.kept
+returns-then-not-branch-clause-kept g c = keeps_all_in_turn (g.B.Book.keeps c.args.book.now) (g.B.Book.keeps c.loop-face.book) (g.B.Book.keeps c.has_item.new.book) c.loop-face.invariant.1 c.has_item.ensures.kept
 
 pub returns-then-not-branch-clause-answer : goal.returns-then-not-branch-clause-answer
 returns-then-not-branch-clause-answer g c =
@@ -54,7 +55,7 @@ loop-face-preserved g c =
     let P : ℕ → Type 0 = λ n. KeepsItem after c.loop-face.face n in
     let Q : Shape × ℕ → Type 0 = λ t. HasItem t.0 c.loop-face.face t.1 in (
       c.has_item.ensures.shape ∙ c.loop-face.invariant.0,
-      kept_both (g.B.Book.keeps c.args.book.now) before after c.loop-face.invariant.1 c.has_item.ensures.kept,
+      keeps_all_in_turn (g.B.Book.keeps c.args.book.now) before after c.loop-face.invariant.1 c.has_item.ensures.kept,
       head_kept before after c.args.key.now c.loop-face.face c.has_item.ensures.kept c.loop-face.invariant.2 (subst P (ap (λ (ks : List ℕ). get_or ks c.loop-face.face 0) e) new.0),
       below_more (λ k. HasItem (g.B.Book.shape c.args.book.now) k (get_or c.args.key.now k 0)) c.loop-face.face c.loop-face.invariant.3
           (subst Q (λ i. (c.loop-face.invariant.0 i, get_or (e i) c.loop-face.face 0)) new.1),

@@ -45,7 +45,7 @@ returns-in_ok-heights-in-Feasible-clause-solution c =
     let h = solved_feasible c.args.tableau.now.columns (length g.points) c.args.width c.as_slice-2.result.now rs c.solve.new.self.answer ws
     c.requires.columns c.as_slice-2.ensures.value c.heights-in-Feasible.ensures c.in-Feasible.ensures.answer c.in-Feasible.ensures.meaning in
     let whole : length key ≡ length g.faces = sym (ap length (c.as_slice.ensures ∙ c.key.view_is)) ∙ c.if-not-whole.false ∙ ap length c.faces.ensures.value in
-    let k = class_of g c.requires.shape key rs c.args.rows.now.faces.items c.requires.rows c.requires.within.0 c.requires.within.1 whole c.args.width ws h.0 h.1 in
+    let k = class_of g c.requires.shape key rs c.args.rows.now.faces.items c.requires.rows c.requires.within.0 c.requires.within.1 whole c.args.width ws h.0 in
     let P : List ℤ → Type 0 = IsClass g key in
     (whole, subst P (sym (c.from_vec.ensures ∙ c.in_ok-heights-in-Feasible.ensures.items)) k)
 

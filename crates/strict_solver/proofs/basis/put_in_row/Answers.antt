@@ -6,9 +6,6 @@ use Rattle.strict_solver.proofs.Words.{word30}
 use Rattle.strict_solver.proofs.PuttingIn.{put_in, put_in-same}
 use Rattle.strict_solver.proofs.basis.put_in_row.Goals as goal
 
-signs : (n w v z : ℤ) → n ≡ sign w *ℤ v → w ≡ z → v ≡ z → n ≡ sign z *ℤ z
-signs n w v z e f g = e ∙ (λ t. sign (f t) *ℤ g t)
-
 passed : (n w v z y : ℤ) → n ≡ sign w *ℤ v → w ≡ z → v ≡ y → n ≡ sign z *ℤ y
 passed n w v z y e f g = e ∙ (λ t. sign (f t) *ℤ g t)
 
@@ -19,7 +16,7 @@ returns-then-times-divisor-clause-answer c =
     let p = c.args.column in
     let lc = word30 (number line p) (c.requires.line.each p) in
     let rc = word30 (number row p) (c.requires.row.each p) in
-    let times = signs _ _ _ (number line p) c.signed-times.ensures.value lc lc in
+    let times = passed _ _ _ (number line p) (number line p) c.signed-times.ensures.value lc lc in
     let factor = passed _ _ _ (number line p) (number row p) c.signed-factor.ensures.value lc rc in
     put_in-same line row p c.args.divisor.now.number c.requires.some
     (sym factor ∙ zero_word c.signed-factor.result (let a = c.signed-factor.ensures.size in omega arith) c.if-factor-eq0.true)
@@ -32,7 +29,7 @@ returns-clause-answer c =
     let p = c.args.column in
     let lc = word30 (number line p) (c.requires.line.each p) in
     let rc = word30 (number row p) (c.requires.row.each p) in
-    let times = signs _ _ _ (number line p) c.signed-times.ensures.value lc lc in
+    let times = passed _ _ _ (number line p) (number line p) c.signed-times.ensures.value lc lc in
     let factor = passed _ _ _ (number line p) (number row p) c.signed-factor.ensures.value lc rc in
     let wt = word30 c.signed-times.result c.signed-times.ensures.size in
     let wf = word30 c.signed-factor.result c.signed-factor.ensures.size in

@@ -1,9 +1,9 @@
-use Rattle.std.proofs.Common.{◌≡◌, ℕ, ◌<◌, ◌≤◌, ◌⊎◌, inl, inr, subst, arith, unsigned_abs}
+use Rattle.std.proofs.Common.{◌≡◌, subst, arith, unsigned_abs}
 use Rattle.std.specs.Int.{◌∣◌}
 use Rattle.std.proofs.Math.Nat.{one-dvd}
 use Rattle.std.proofs.lemmas.Int.{ints}
 use Rattle.strict_solver.specs.Rows.{number}
-use Rattle.strict_solver.proofs.Divisors.{divides_next, greatest_next, divides_past}
+use Rattle.strict_solver.proofs.Divisors.{divides_next, greatest_next, divides_all}
 use Rattle.strict_solver.proofs.row.common_divisor.Goals as goal
 
 pub returns-then-divisor-eq1 : goal.returns-then-divisor-eq1
@@ -21,10 +21,6 @@ loop-number-preserved c =
 
 pub returns : goal.returns
 returns c = record {
-  divides = λ k. at k (let g : (k < c.loop-number.number-index) ⊎ (c.loop-number.number-index ≤ k) = grind arith in g);
+  divides = divides_all c.args.numbers.now c.loop-number.divisor c.loop-number.number-index (omega arith) c.loop-number.invariant.0;
   greatest = c.loop-number.invariant.1;
 }
-  where
-    at : (k : ℕ) → (k < c.loop-number.number-index) ⊎ (c.loop-number.number-index ≤ k) → c.loop-number.divisor ∣ unsigned_abs (number c.args.numbers.now k)
-    at k (inl h) = c.loop-number.invariant.0 k h
-    at k (inr h) = divides_past c.args.numbers.now c.loop-number.divisor k (omega arith)

@@ -1,9 +1,9 @@
-use Rattle.std.proofs.Common.{◌≡◌, ℕ, ◌<◌, ◌≤◌, ◌⊎◌, inl, inr, subst, arith, unsigned_abs}
+use Rattle.std.proofs.Common.{◌≡◌, subst, arith, unsigned_abs}
 use Rattle.std.specs.Int.{◌∣◌, IsGcd}
 use Rattle.std.proofs.Math.Nat.{one-dvd}
 use Rattle.std.proofs.lemmas.Int.{ints}
 use Rattle.strict_solver.specs.Rows.{number}
-use Rattle.strict_solver.proofs.Divisors.{divides_next, greatest_next, divides_past}
+use Rattle.strict_solver.proofs.Divisors.{divides_next, greatest_next, divides_all}
 use Rattle.strict_solver.proofs.ShortRows.{gcd_swapped}
 use Rattle.strict_solver.proofs.short.common_divisor.Goals as goal
 use Rattle.strict_solver.proofs.short.common_divisor.Goals.{After-divisor-common}
@@ -32,10 +32,6 @@ loop-number-preserved c =
 
 pub returns : goal.returns
 returns c = record {
-  divides = λ k. at k (let g : (k < c.loop-number.number-index) ⊎ (c.loop-number.number-index ≤ k) = grind arith in g);
+  divides = divides_all c.args.numbers.now c.loop-number.common c.loop-number.number-index (omega arith) c.loop-number.invariant.0;
   greatest = c.loop-number.invariant.1;
 }
-  where
-    at : (k : ℕ) → (k < c.loop-number.number-index) ⊎ (c.loop-number.number-index ≤ k) → c.loop-number.common ∣ unsigned_abs (number c.args.numbers.now k)
-    at k (inl h) = c.loop-number.invariant.0 k h
-    at k (inr h) = divides_past c.args.numbers.now c.loop-number.common k (omega arith)

@@ -1,4 +1,4 @@
-use Rattle.std.proofs.Common.{◌≡◌, ◌≢◌, ◌+◌, ◌^◌, ◌<◌, ◌∙◌, ◌*ℤ◌, ◌<ℤ◌, ℤ, ℕ, pos, List, ap, sym, subst, arith, refl, length, unsigned_abs, to_z, of_z, w64}
+use Rattle.std.proofs.Common.{◌≡◌, ◌≢◌, ◌+◌, ◌^◌, ◌<◌, ◌∙◌, ◌*ℤ◌, ◌<ℤ◌, ℤ, pos, List, ap, sym, subst, arith, refl, length, unsigned_abs, to_z, of_z, w64}
 use Rattle.std.proofs.lemmas.List.{get_or_read}
 use Rattle.ntfe_nums.specs.Vectors.{sign}
 use Rattle.strict_solver.specs.declared.place.Place.TheVariants.{Row, Column}
@@ -9,9 +9,7 @@ use Rattle.strict_solver.proofs.Words.{word30}
 use Rattle.strict_solver.proofs.Exchanging.{narrow_after, put_again}
 use Rattle.strict_solver.proofs.basis.Basis.exchange.Goals as goal
 use Rattle.strict_solver.proofs.Steps.{sign_positive}
-
-same_column : (m n : ℕ) → Column m ≡ Column n → m ≡ n
-same_column m n e = cc
+use Rattle.strict_solver.proofs.Placing.{same_column}
 
 pub returns-clause-answer : goal.returns-clause-answer
 returns-clause-answer c =

@@ -4,7 +4,7 @@ use Rattle.strict_solver.specs.declared.place.Place.TheVariants.{Row, Column}
 use Rattle.strict_solver.specs.declared.basis.Basis.{Basis}
 use Rattle.strict_solver.specs.Standing.{IsExchanged}
 use Rattle.strict_solver.proofs.Settling.{end_enters, still_first, end_loads}
-use Rattle.strict_solver.proofs.StandingRows.{front_place, last_place}
+use Rattle.strict_solver.proofs.StandingRows.{last_place, push_before}
 use Rattle.strict_solver.proofs.basis.Basis.load.Goals as goal
 
 pub exchange-requires-clause-first : goal.exchange-requires-clause-first
@@ -25,7 +25,7 @@ exchange-requires-clause-enters c =
     let s = c.requires.stands in
     let n = c.write_line.new.self in
     let e = end_enters c.args.self.now s.0 s.1 c.args.fold.now c.requires.fold c.args.height c.requires.first n c.if-not-write_line.ensures.others c.if-not-write_line.ensures.answer in
-    (e.0, ap (λ ps. slice_get ps c.args.height) c.in_ok-push.ensures.items ∙ front_place n.places.items (Row 0) (Column e.0) c.args.height e.1, e.2, e.3, e.4)
+    (e.0, ap (λ ps. slice_get ps c.args.height) c.in_ok-push.ensures.items ∙ push_before n.places.items (Row 0) (Column e.0) c.args.height e.1, e.2, e.3, e.4)
 
 pub returns-then-exchange-clause-answer : goal.returns-then-exchange-clause-answer
 returns-then-exchange-clause-answer c = λ fs h.

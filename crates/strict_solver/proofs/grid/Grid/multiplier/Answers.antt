@@ -2,6 +2,7 @@ use Rattle.std.proofs.Common.{◌≡◌, ◌≢◌, ℕ, ◌+◌, ◌*◌, ◌^�
 use Rattle.std.specs.Prelude.{slice_get}
 use Rattle.std.proofs.lemmas.Int.{ints, fits_signed_from_abs}
 use Rattle.std.proofs.lemmas.Bool.Decides.{nat_tests}
+use Rattle.ntfe_nums.proofs.Comparisons.{test_from_same}
 use Rattle.ntfe_model.specs.Solver.{Line, multiplier_at, coefficient_at}
 use Rattle.strict_solver.specs.declared.place.Place.TheVariants.{Row, Column}
 use Rattle.strict_solver.specs.declared.grid.Grid.{Grid}
@@ -13,9 +14,7 @@ use Rattle.strict_solver.proofs.Placing.{line_there, coefficient_there}
 use Rattle.strict_solver.proofs.Tables.{get_line}
 use Rattle.strict_solver.proofs.grid.Grid.multiplier.Goals as goal
 use Rattle.strict_solver.proofs.grid.Grid.multiplier.Goals.{In-Row}
-
-same_test : (m n : ℕ) → m ≡ n → (m == n) ≡ true
-same_test m n e = grind (arith, nat_tests)
+use Rattle.ntfe_model.proofs.Lists.{some_once}
 
 other_test : (m n : ℕ) → m ≢ n → (m == n) ≡ false
 other_test m n e = by (m == n) refl
@@ -26,16 +25,13 @@ other_test m n e = by (m == n) refl
 
 -- the multiplier of the slack's own row, and of another one
 own_multiplier : (columns x j : ℕ) (r : Line) → columns + j ≡ x → r.d ≡ multiplier_at columns x r j
-own_multiplier columns x j r e = sym (ap (λ b. cond b r.d (pos (unsigned_abs (coefficient_at r (columns + j))))) (same_test (columns + j) x e))
+own_multiplier columns x j r e = sym (ap (λ b. cond b r.d (pos (unsigned_abs (coefficient_at r (columns + j))))) (test_from_same (columns + j) x e))
 
 other_multiplier : (columns x j : ℕ) (r : Line) → columns + j ≢ x → pos (unsigned_abs (coefficient_at r (columns + j))) ≡ multiplier_at columns x r j
 other_multiplier columns x j r e = sym (ap (λ b. cond b r.d (pos (unsigned_abs (coefficient_at r (columns + j))))) (other_test (columns + j) x e))
 
 line_is : (g : Grid) (x r : ℕ) (line : Line) → slice_get g.places.items x ≡ Some (Row r) → get_or (lines_of g) x None ≡ Some line → line_in g.places.items (row_at (g.columns + 2) g.cells.items r) ≡ line
-line_is g x r line e f = both (line_in g.places.items (row_at (g.columns + 2) g.cells.items r)) line (sym (get_line _ x _ (line_there (g.columns + 2) g.places.items g.cells.items x (Row r) e)) ∙ f)
-  where
-    both : (a b : Line) → Some a ≡ Some b → a ≡ b
-    both a b h = cc
+line_is g x r line e f = some_once (line_in g.places.items (row_at (g.columns + 2) g.cells.items r)) line (sym (get_line _ x _ (line_there (g.columns + 2) g.places.items g.cells.items x (Row r) e)) ∙ f)
 
 module _ (c : In-Row) where
   is : slice_get c.args.self.now.places.items c.args.slack ≡ Some (Row c.in-Row.r)
