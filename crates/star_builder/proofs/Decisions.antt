@@ -1,12 +1,19 @@
--- Decisions over the numbers below a bound, how many of them have a property, and the least ratio.
-use Rattle.std.proofs.Common.{◌≡◌, ℕ, zero, suc, ◌<◌, ◌≤◌, ◌⊎◌, inl, inr, ⊎_elim, refl, sym, subst, arith, ℤ, pos, ◌-ℤ◌, ◌*ℤ◌, ◌<ℤ◌, ◌≤ℤ◌, neg_ℤ, [], ◌∷◌}
+-- Decisions over signs, and over the numbers below a bound, how many of these have a property, and the least ratio.
+use Rattle.std.proofs.Common.{◌≡◌, ◌≢◌, negsuc, ℕ, zero, suc, ◌<◌, ◌≤◌, ◌⊎◌, inl, inr, ⊎_elim, refl, sym, subst, arith, ℤ, pos, ◌-ℤ◌, ◌*ℤ◌, ◌<ℤ◌, ◌≤ℤ◌, neg_ℤ, [], ◌∷◌}
 use Rattle.std.proofs.lemmas.Int.{ints}
 use Rattle.ntfe_nums.proofs.Ring.{ring}
 use Rattle.ntfe_nums.proofs.Ring.Expression.{var, times}
 use Rattle.ntfe_model.proofs.Triples.{Decided}
-use Rattle.star_builder.proofs.Leading.{three_signs}
 use Rattle.star_builder.proofs.CentreTriples.{times_keeps, factor_out}
 use Rattle.star_builder.proofs.Least.{least_with}
+
+pub three_signs : (z : ℤ) → (pos 0 <ℤ z) ⊎ ((z ≡ pos 0) ⊎ (pos 0 <ℤ neg_ℤ z))
+three_signs (pos zero) = inr (inl refl)
+three_signs (pos (suc n)) = inl (omega (arith, ints))
+three_signs (negsuc n) = inr (inr (omega (arith, ints)))
+
+pub two_signs : (z : ℤ) → z ≢ pos 0 → (pos 0 <ℤ z) ⊎ (pos 0 <ℤ neg_ℤ z)
+two_signs z n = ⊎_elim inl (λ r. ⊎_elim (λ e. absurd (n e)) inr r) (three_signs z)
 
 pub decide_less : (x y : ℕ) → Decided (x < y)
 decide_less x y = ⊎_elim inl (λ l. inr (λ m. absurd (omega (arith, l, m)))) (compare x y)
@@ -42,10 +49,6 @@ decide_some_below P d (suc n) = by (decide_some_below P d n) (d n)
     by (inl (k, l, p)) q = inl (k, omega (arith, l), p)
     by (inr m) (inl p) = inl (n, omega arith, p)
     by (inr m) (inr i) = inr (λ r. ⊎_elim (λ l. m (r.0, l, r.2)) (λ e. i (subst P e r.2)) (split_last r.0 n r.1))
-
-pub decide_not : {A : Type 0} → Decided A → Decided (A → ⊥)
-decide_not (inl a) = inr (λ n. n a)
-decide_not (inr n) = inl n
 
 pub decide_given : {A B : Type 0} → Decided A → Decided B → Decided (A → B)
 decide_given (inr n) q = inl (λ a. absurd (n a))

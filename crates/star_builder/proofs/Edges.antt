@@ -16,11 +16,10 @@ use Rattle.ntfe_model.specs.Reflexive.{IsTight, IsTightOnFour, IsReflexive, IsOn
 use Rattle.ntfe_model.specs.Points.{SpanPlane}
 use Rattle.ntfe_model.proofs.Listings.{All-from_contains}
 use Rattle.ntfe_model.proofs.PlaneNumbers.{positive_factor}
-use Rattle.ntfe_model.proofs.Triples.{Decided, decide_both}
-use Rattle.star_builder.proofs.Leading.{three_signs}
+use Rattle.ntfe_model.proofs.Triples.{Decided, decide_not, decide_both}
 use Rattle.star_builder.proofs.CentreTriples.{times_keeps}
 use Rattle.star_builder.proofs.FacetPoints.{decide_equal, zero_on_four, same_form, place_in}
-use Rattle.star_builder.proofs.Decisions.{decide_less, decide_not, count, count_falls, least_ratio}
+use Rattle.star_builder.proofs.Decisions.{three_signs, decide_less, count, count_falls, least_ratio}
 use Rattle.star_builder.proofs.Pencils.{pencil, affine_swap12, affine_swap23, affine_swap34, affine_outside, one_side, plane_spanned}
 use Rattle.star_builder.proofs.Orthogonal.{decide_vector, HasTriple, IsOrthogonal, triple_or_orthogonal, four_in}
 

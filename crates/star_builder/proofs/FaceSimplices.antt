@@ -1,5 +1,6 @@
 -- The triples of a two-face that lie below all its other points are those that low simplices leave there.
 --     never_level      no four points of the two-face are level at generic heights
+--     rise_of_lift, lift_of_rise      a point of the two-face rises above four points where it is lifted above three of them
 --     low_lower      three points of a low simplex lie below all others of the two-face
 --     lower_low      three points below all others of the two-face are part of a low simplex
 use Rattle.std.proofs.Common.{◌≡◌, ◌≢◌, ℕ, ◌<◌, inl, inr, ⊎_elim, refl, sym, ap, ◌∙◌, subst, arith, ℤ, pos, negsuc, ◌+ℤ◌, ◌-ℤ◌, ◌*ℤ◌, ◌<ℤ◌, ◌≤ℤ◌, neg_ℤ, [], ◌∷◌, length}
@@ -21,11 +22,11 @@ use Rattle.star_builder.proofs.FourWeights.{dot_mix, cancel_other}
 use Rattle.star_builder.proofs.FacePlanes.{first_of, second_of, plane_weights, wedge_sum, outside_apart, plane_mix, plane_volume, plane_rise}
 use Rattle.star_builder.proofs.FacetMembers.{lifted_over}
 use Rattle.star_builder.proofs.FacetPoints.{decide_equal}
-use Rattle.star_builder.proofs.LeastSlope.{IsOutside, some_outside, distance, outside_far, face_point_tight, tight_face_point}
+use Rattle.star_builder.proofs.FacePoints.{IsOutside, some_outside, distance, outside_far, face_point_tight, tight_face_point}
 use Rattle.star_builder.proofs.LowSimplices.{IsLow, IsGeneric}
 use Rattle.star_builder.proofs.Planar.{wedge, lift, IsLower, AreNeverLevel, lower_over, not_both}
 use Rattle.star_builder.proofs.Rises.{gap, gap_multiple, gap_tilt, rise, rise_gap, rise_first, rise_second, rise_third, through, volume}
-use Rattle.ntfe_nums.proofs.Signs.{factor_not_negative, product_not_negative, square_not_negative, square_positive, zero_out, positive_product}
+use Rattle.ntfe_nums.proofs.Signs.{factor_not_negative, product_not_negative, square_not_negative, square_positive, zero_out, positive_product, product_exchanged, not_negative}
 use Rattle.star_builder.proofs.Supports.{tight_points, tight_number, tight_on, in_tight, low_support}
 use Rattle.star_builder.proofs.Tilts.{IsTiltedAlong, tilt_along}
 
@@ -68,7 +69,7 @@ module _ (g : Shape) (s : IsShape g) (f : ℕ) (within : f < length g.faces) (v 
       (dot_mix m (plane_weights g s f within v a b c p) (spot a) (spot b) (spot c) (spot p) (spot p) (plane_mix g s f within v a b c oa ob oc flat p op (spot p))
       ∙ (λ i. wedge X Y v b c p *ℤ ta i +ℤ (wedge X Y v c a p *ℤ tb i +ℤ (wedge X Y v a b p *ℤ tc i +ℤ pos 0 *ℤ dot m (spot p)))))
 
-  outside_face : (d : ℕ) → IsOutside g s f within d → (p : ℕ) → On p → p ≢ d
+  pub outside_face : (d : ℕ) → IsOutside g s f within d → (p : ℕ) → On p → p ≢ d
   outside_face d out p op e = out.2 (ap (λ k. dot second (spot k)) (sym e) ∙ (face_point_tight g s f within p op).1)
 
   -- the rise above a simplex, as a lift in the plane
@@ -79,6 +80,31 @@ module _ (g : Shape) (s : IsShape g) (f : ℕ) (within : f < length g.faces) (v 
       ring (wedge X Y v a b c ∷ V ∷ rise spot v a b c d p ∷ []) (times (var 0) (times (var 1) (var 2))) (times (var 1) (times (var 0) (var 2))) refl
       ∙ ap (λ z. V *ℤ z) (plane_rise g s f within v a b c oa ob oc flat p op d)
       ∙ ring (V ∷ lift X Y v a b c p ∷ []) (times (var 0) (times (var 0) (var 1))) (times (times (var 0) (var 0)) (var 1)) refl
+
+  -- so they have one sign
+  module _ (a b c d p : ℕ) (oa : On a) (ob : On b) (oc : On c) (op : On p) (left : pos 0 <ℤ wedge X Y v a b c) (independent : volume spot v a b c d ≢ pos 0) where
+    abbrev size : ℤ
+    size = volume spot v a b c d
+
+    not_flat : wedge X Y v a b c ≢ pos 0
+    not_flat e = not_both (wedge X Y v a b c) left e
+
+    pub rise_of_lift : pos 0 <ℤ lift X Y v a b c p → pos 0 <ℤ (volume spot v a b c d *ℤ rise spot v a b c d p)
+    rise_of_lift l =
+        positive_factor (size *ℤ rise spot v a b c d p) (wedge X Y v a b c) left
+        (subst (λ z. pos 0 <ℤ z) (sym (signed_lift a b c d p oa ob oc not_flat op) ∙ product_exchanged (wedge X Y v a b c) (size *ℤ rise spot v a b c d p))
+        (positive_product (size *ℤ size) (lift X Y v a b c p) (square_positive size independent) l))
+
+    pub lift_of_rise : pos 0 <ℤ (volume spot v a b c d *ℤ rise spot v a b c d p) → pos 0 <ℤ lift X Y v a b c p
+    lift_of_rise l =
+        positive_factor (lift X Y v a b c p) (size *ℤ size) (square_positive size independent)
+        (subst (λ z. pos 0 <ℤ z) (signed_lift a b c d p oa ob oc not_flat op ∙ product_exchanged (size *ℤ size) (lift X Y v a b c p))
+        (positive_product (wedge X Y v a b c) (size *ℤ rise spot v a b c d p) left l))
+
+    pub lift_least : pos 0 ≤ℤ (volume spot v a b c d *ℤ rise spot v a b c d p) → pos 0 ≤ℤ lift X Y v a b c p
+    lift_least l =
+        factor_not_negative (size *ℤ size) (lift X Y v a b c p) (square_positive size independent)
+        (subst (λ z. pos 0 ≤ℤ z) (signed_lift a b c d p oa ob oc not_flat op) (product_not_negative (wedge X Y v a b c) (size *ℤ rise spot v a b c d p) (not_negative (wedge X Y v a b c) left) l))
 
   module _ (generic : IsGeneric g.points v) where
     pub never_level : AreNeverLevel (first_of g s f within v) (second_of g s f within v) v (IsOf (patch_at g f))
@@ -102,12 +128,9 @@ module _ (g : Shape) (s : IsShape g) (f : ℕ) (within : f < length g.faces) (v 
 
       above : (p : ℕ) → On p → p ≢ a → p ≢ b → p ≢ c → pos 0 <ℤ lift X Y v a b c p
       above p op pa pb pc =
-          positive_factor (lift X Y v a b c p) (volume spot v a b c d *ℤ volume spot v a b c d) (square_positive (volume spot v a b c d) low.independent)
-          (subst (λ z. pos 0 <ℤ z)
-          (signed_lift a b c d p oa ob oc flat op ∙ ring (volume spot v a b c d ∷ lift X Y v a b c p ∷ []) (times (times (var 0) (var 0)) (var 1)) (times (var 1) (times (var 0) (var 0))) refl)
-          (positive_product (wedge X Y v a b c) (volume spot v a b c d *ℤ rise spot v a b c d p) left
+          lift_of_rise a b c d p oa ob oc op left low.independent
           (low.above p (point_within g s f within p op) pa pb pc (λ e. low.independent (ap (volume spot v a b c) (sym e) ∙ plane_volume g s f within v a b c oa ob oc flat p op d))
-          (plane_tight m a b c oa ob oc flat low.tight.0 low.tight.1 low.tight.2 p op))))
+          (plane_tight m a b c oa ob oc flat low.tight.0 low.tight.1 low.tight.2 p op))
 
   -- ---- three points below the face are part of a low simplex
 

@@ -15,7 +15,7 @@ use Rattle.ntfe_model.proofs.Listings.{Contains-here, Contains-there, Contains-c
 use Rattle.ntfe_model.proofs.PlaneNumbers.{positive_factor, cancel, sign_not_right, zero_factor}
 use Rattle.ntfe_model.proofs.Triples.{Decided, decide_number}
 use Rattle.ntfe_model.proofs.UnitTriples.{area_of}
-use Rattle.star_builder.proofs.Leading.{three_signs}
+use Rattle.star_builder.proofs.Decisions.{three_signs}
 use Rattle.star_builder.proofs.FacetPoints.{decide_equal, int_eq_to}
 use Rattle.star_builder.proofs.Least.{least_with}
 

@@ -167,16 +167,16 @@ module _ (ms : List Vector) (xs : List Point) (w : List ℤ) (order : List ℕ) 
 
       others : (p : ℕ) → IsNumberOf xs p → p ≢ a → p ≢ b → p ≢ c → p ≢ d → IsTight (entry ms facet) (place_of_point xs p) → IsLexAbove xs w order a b c d p
       others p n pa pb pc pd t =
-          rises_lex w order xs a b c d p (volume_five xs heights (entry ms facet) a b c d p l.independent pa pb pc pd) (in_order p n)
-          (small a l.numbers.0) (small b l.numbers.1) (small c l.numbers.2) (small d l.numbers.3) (small p n) l.independent (l.above p n pa pb pc pd t)
+          rises_lex w order xs a b c d p l.independent (volume_five xs heights (entry ms facet) a b c d p l.independent pa pb pc pd) (in_order p n)
+          (small a l.numbers.0) (small b l.numbers.1) (small c l.numbers.2) (small d l.numbers.3) (small p n) (l.above p n pa pb pc pd t)
 
   pub member_low : (members : List ℕ) (r : IsMember ms xs w order members) → IsLow xs heights (entry ms r.facet) r.a r.b r.c r.d
   member_low members r = record {
     numbers = (na, nb, nc, nd);
     tight = (r.tight r.a (named r.a (has_first r.a r.b r.c r.d)), r.tight r.b (named r.b (has_second r.a r.b r.c r.d)), r.tight r.c (named r.c (has_third r.a r.b r.c r.d)), r.tight r.d (named r.d (has_fourth r.a r.b r.c r.d)));
     independent = r.independent;
-    above = λ p n pa pb pc pd t. lex_rises w order xs r.a r.b r.c r.d p (volume_five xs heights (entry ms r.facet) r.a r.b r.c r.d p r.independent pa pb pc pd) (in_order p n)
-        (small r.a na) (small r.b nb) (small r.c nc) (small r.d nd) (small p n) r.independent (r.others p n (outside p pa pb pc pd) t);
+    above = λ p n pa pb pc pd t. lex_rises w order xs r.a r.b r.c r.d p r.independent (volume_five xs heights (entry ms r.facet) r.a r.b r.c r.d p r.independent pa pb pc pd) (in_order p n)
+        (small r.a na) (small r.b nb) (small r.c nc) (small r.d nd) (small p n) (r.others p n (outside p pa pb pc pd) t);
   }
     where
       na : IsNumberOf xs r.a
@@ -199,5 +199,5 @@ module _ (ms : List Vector) (xs : List Point) (w : List ℤ) (order : List ℕ) 
 
   pub generic : IsGeneric xs heights
   generic a b c d p na nb nc nd np pa pb pc pd independent =
-      never_level w order xs a b c d p (volume_five xs heights (place_of_point xs a) a b c d p independent pa pb pc pd) (in_order p np)
-      (small a na) (small b nb) (small c nc) (small d nd) (small p np) independent
+      never_level w order xs a b c d p independent (volume_five xs heights (place_of_point xs a) a b c d p independent pa pb pc pd) (in_order p np)
+      (small a na) (small b nb) (small c nc) (small d nd) (small p np)

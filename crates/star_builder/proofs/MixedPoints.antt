@@ -19,7 +19,7 @@ use Rattle.ntfe_model.proofs.GeometryPoints.{point_within}
 use Rattle.ntfe_model.proofs.Listings.{Contains-filter, listing_range}
 use Rattle.star_builder.proofs.FourWeights.{IsMixOf, dot_mix, cancel_other}
 use Rattle.star_builder.proofs.FacetPoints.{int_eq_to, two_members}
-use Rattle.star_builder.proofs.LeastSlope.{face_is, face_point_tight, tight_face_point, number_first, number_second}
+use Rattle.star_builder.proofs.FacePoints.{face_is, face_point_tight, tight_face_point, number_first, number_second}
 use Rattle.star_builder.proofs.Planar.{not_both}
 use Rattle.ntfe_nums.proofs.Signs.{negative_or, product_not_negative}
 use Rattle.star_builder.proofs.UsedPoints.{three_weights}

@@ -6,8 +6,8 @@ use Rattle.ntfe_nums.proofs.Ring.{ring}
 use Rattle.ntfe_nums.proofs.Ring.Expression.{var, num, neg}
 use Rattle.ntfe_nums.proofs.DetLemmas.{det3E, det4-cofactors}
 use Rattle.ntfe_nums.proofs.Exchanges.{swap_last, second_last, first_last}
-use Rattle.ntfe_model.proofs.Triples.{Decided, decide_both}
-use Rattle.star_builder.proofs.Decisions.{decide_some_below, decide_not, decide_both4}
+use Rattle.ntfe_model.proofs.Triples.{Decided, decide_not, decide_both}
+use Rattle.star_builder.proofs.Decisions.{decide_some_below, decide_both4}
 use Rattle.star_builder.proofs.FacetPoints.{decide_equal}
 use Rattle.star_builder.proofs.FourWeights.{orthogonal_first, orthogonal_second, orthogonal_third}
 

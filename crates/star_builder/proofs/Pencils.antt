@@ -11,7 +11,7 @@ use Rattle.ntfe_model.specs.Reflexive.{IsTight}
 use Rattle.ntfe_model.specs.Points.{SpanPlane}
 use Rattle.ntfe_model.proofs.PlaneNumbers.{zero_factor}
 use Rattle.ntfe_model.proofs.Triples.{Decided}
-use Rattle.star_builder.proofs.Leading.{three_signs}
+use Rattle.star_builder.proofs.Decisions.{three_signs}
 use Rattle.star_builder.proofs.FourWeights.{dot_mix, cramer, cramer_weights, cancel_other}
 use Rattle.star_builder.proofs.FacetPoints.{decide_equal, same_form}
 
