@@ -202,8 +202,7 @@ module _ (ms : List Vector) (xs : List Point) (w : List ℤ) (order : List ℕ) 
   ranged : (v : List ℕ) → IsMember ms xs w order v → IsInRange (length xs) 4 v
   ranged v r =
       let o = r.ordered in
-      let l0 = o.0.0 in let l1 = o.1 in let l2 = o.2 in let l3 = o.3 in let l4 = o.4.1 in
-      (
+      let l0 = o.0.0 in let l1 = o.1 in let l2 = o.2 in let l3 = o.3 in let l4 = o.4.1 in (
         r.a,
         (l0, omega (arith, l1, l2, l3, l4)),
         (
