@@ -3,7 +3,7 @@
 --     rise_of_lift, lift_of_rise      a point of the two-face rises above four points where it is lifted above three of them
 --     low_lower      three points of a low simplex lie below all others of the two-face
 --     lower_low      three points below all others of the two-face are part of a low simplex
-use Rattle.std.proofs.Common.{◌≡◌, ◌≢◌, ℕ, ◌<◌, inl, inr, ⊎_elim, refl, sym, ap, ◌∙◌, subst, arith, ℤ, pos, negsuc, ◌+ℤ◌, ◌-ℤ◌, ◌*ℤ◌, ◌<ℤ◌, ◌≤ℤ◌, neg_ℤ, [], ◌∷◌, length}
+use Rattle.std.proofs.Common.{◌≡◌, ◌≢◌, ℕ, ◌<◌, ⊎_elim, refl, sym, ap, ◌∙◌, subst, arith, ℤ, pos, negsuc, ◌+ℤ◌, ◌-ℤ◌, ◌*ℤ◌, ◌<ℤ◌, ◌≤ℤ◌, neg_ℤ, [], ◌∷◌, length}
 use Rattle.std.specs.Prelude.{Contains}
 use Rattle.std.proofs.lemmas.Int.{ints}
 use Rattle.ntfe_nums.specs.Vectors.{Vector, dot, difference, multiple}
@@ -17,12 +17,10 @@ use Rattle.ntfe_model.specs.Shapes.{Shape, IsShape, face_at}
 use Rattle.ntfe_model.specs.Charts.{patch_at, IsOf}
 use Rattle.ntfe_model.proofs.GeometryPoints.{point_within}
 use Rattle.ntfe_model.proofs.PlaneNumbers.{positive_factor, zero_factor}
-use Rattle.ntfe_model.proofs.Triples.{Decided}
 use Rattle.star_builder.proofs.FourWeights.{dot_mix, cancel_other}
 use Rattle.star_builder.proofs.FacePlanes.{first_of, second_of, plane_weights, wedge_sum, outside_apart, plane_mix, plane_volume, plane_rise}
-use Rattle.star_builder.proofs.FacetMembers.{lifted_over}
-use Rattle.star_builder.proofs.FacetPoints.{decide_equal}
-use Rattle.star_builder.proofs.FacePoints.{IsOutside, some_outside, distance, outside_far, face_point_tight, tight_face_point}
+use Rattle.star_builder.proofs.FacetMembers.{lifted_along}
+use Rattle.star_builder.proofs.FacePoints.{facet_below, number_second, IsOutside, some_outside, distance, outside_far, face_point_tight, tight_face_point}
 use Rattle.star_builder.proofs.LowSimplices.{IsLow, IsGeneric}
 use Rattle.star_builder.proofs.Planar.{wedge, lift, IsLower, AreNeverLevel, lower_over, not_both}
 use Rattle.star_builder.proofs.Rises.{gap, gap_multiple, gap_tilt, rise, rise_gap, rise_first, rise_second, rise_third, through, volume}
@@ -181,8 +179,17 @@ module _ (g : Shape) (s : IsShape g) (f : ℕ) (within : f < length g.faces) (v 
         (product_not_negative (V *ℤ V) (lift X Y v a b c x) (square_not_negative V) (lower_over X Y v (IsOf (patch_at g f)) a b c lower x o))))
 
     -- a multiple of the depth that lifts all points of the facet above the three
-    abbrev factor : (k : ℤ) × (pos 0 ≤ℤ k) × ((x : ℕ) → Contains (tight_points first g.points) x → pos 0 ≤ℤ (height_over x +ℤ k))
-    factor = lifted_over height_over (tight_points first g.points)
+    factor : (k : ℤ) × (pos 0 ≤ℤ k) × ((x : ℕ) → Contains (tight_points first g.points) x → pos 0 ≤ℤ (height_over x +ℤ k *ℤ depth x))
+    factor =
+        lifted_along height_over depth (tight_points first g.points)
+        (λ x h. over (dot second (spot x)) (dot first (spot x)) (depth x) (depth_is x) (facet_below g s f within (face_at g f).second (number_second g s f within) x (tight_number first g.points x h)) (tight_on first g.points x h))
+        (λ x h e. height_on x (tight_face_point g s f within x (tight_number first g.points x h) (tight_on first g.points x h) (level (dot second (spot x)) (dot first (spot x)) (sym (depth_is x) ∙ e) (tight_on first g.points x h))))
+      where
+        over : (y z d : ℤ) → d ≡ y -ℤ z → negsuc 0 ≤ℤ y → z ≡ negsuc 0 → pos 0 ≤ℤ d
+        over y z d e l q = omega (arith, ints, e, l, q)
+
+        level : (y z : ℤ) → y -ℤ z ≡ pos 0 → z ≡ negsuc 0 → y ≡ negsuc 0
+        level y z e q = omega (arith, ints, e, q)
 
     abbrev start_size : ℤ
     start_size = pos 1 *ℤ (V *ℤ V) -ℤ neg_ℤ factor.0 *ℤ pos 0
@@ -196,29 +203,7 @@ module _ (g : Shape) (s : IsShape g) (f : ℕ) (within : f < length g.faces) (v 
         ∙ gap_tilt spot v (pos 1) (V *ℤ V) (neg_ℤ factor.0) (pos 0) (multiple V (through spot v a b c base)) (difference first second) x
 
     start_under : (x : ℕ) → Contains (tight_points first g.points) x → pos 0 ≤ℤ gap spot v start_size start_form x
-    start_under x h = subst (λ z. pos 0 ≤ℤ z) (start_is x) (by (decide_equal (dot second (spot x)) (negsuc 0)))
-      where
-        flat_sum : (y k z : ℤ) → pos 0 ≤ℤ y → z ≡ pos 0 → pos 0 ≤ℤ (y +ℤ k *ℤ z)
-        flat_sum y k z l e = subst (λ u. pos 0 ≤ℤ (y +ℤ k *ℤ u)) (sym e) (zero y (k *ℤ pos 0) (omega (arith, ints)) l)
-          where
-            zero : (y z : ℤ) → z ≡ pos 0 → pos 0 ≤ℤ y → pos 0 ≤ℤ (y +ℤ z)
-            zero y z e l = omega (arith, ints, e, l)
-
-        deep_sum : (y k z : ℤ) → pos 0 ≤ℤ k → pos 0 <ℤ z → pos 0 ≤ℤ (y +ℤ k) → pos 0 ≤ℤ (y +ℤ k *ℤ z)
-        deep_sum y k z i j l =
-            sum y k (k *ℤ (z -ℤ pos 1)) (k *ℤ z) l (product_not_negative k (z -ℤ pos 1) i (omega (arith, ints, j)))
-            (ring (k ∷ z ∷ []) (times (var 0) (var 1)) (plus (var 0) (times (var 0) (minus (var 1) (num (pos 1))))) refl)
-          where
-            sum : (y k r t : ℤ) → pos 0 ≤ℤ (y +ℤ k) → pos 0 ≤ℤ r → t ≡ k +ℤ r → pos 0 ≤ℤ (y +ℤ t)
-            sum y k r t l i e = omega (arith, ints, l, i, e)
-
-        by : Decided (dot second (spot x) ≡ negsuc 0) → pos 0 ≤ℤ (height_over x +ℤ factor.0 *ℤ depth x)
-        by (inl e) =
-            let o = tight_face_point g s f within x (tight_number first g.points x h) (tight_on first g.points x h) e in
-            flat_sum (height_over x) factor.0 (depth x) (height_on x o) (depth_none x o)
-        by (inr n) =
-            deep_sum (height_over x) factor.0 (depth x) factor.1
-            (subst (λ z. pos 0 <ℤ z) (sym (depth_is x)) (outside_far g s f within x (tight_number first g.points x h, tight_on first g.points x h, n))) (factor.2 x h)
+    start_under x h = subst (λ z. pos 0 ≤ℤ z) (start_is x) (factor.2 x h)
 
     base_deep : depth base ≢ pos 0
     base_deep e = not_both (distance g s f within (spot base)) (outside_far g s f within base base_outside) (sym (depth_is base) ∙ e)

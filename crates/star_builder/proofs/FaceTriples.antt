@@ -4,7 +4,7 @@
 --     together_area      such points have an area
 --     left_lower      what is left lies below all other points
 --     lower_left      what lies below all other points is left, up to rotation
-use Rattle.std.proofs.Common.{◌≡◌, ◌≢◌, ℕ, ◌<◌, ◌⊎◌, inl, inr, refl, sym, subst, arith, ℤ, pos, ◌<ℤ◌, List, [], ◌∷◌, length}
+use Rattle.std.proofs.Common.{◌≢◌, ℕ, ◌<◌, ◌⊎◌, inl, inr, refl, sym, subst, arith, ℤ, pos, ◌<ℤ◌, List, [], ◌∷◌, length}
 use Rattle.std.specs.Prelude.{Contains}
 use Rattle.ntfe_nums.specs.Vectors.{Vector}
 use Rattle.ntfe_nums.proofs.Signs.{two_orders}
@@ -24,10 +24,10 @@ use Rattle.star_builder.proofs.FacePlanes.{first_of, second_of, area_wedge}
 use Rattle.star_builder.proofs.FaceSimplices.{IsBelowFace, low_lower, lower_low}
 use Rattle.star_builder.proofs.FacePoints.{facet_below, number_first}
 use Rattle.star_builder.proofs.Inducing.{independent_area}
-use Rattle.star_builder.proofs.LowSimplices.{IsLow, IsGeneric, generic, low_first, low_middle, low_last, low_member, member_low, volume_apart_first, volume_apart_middle, volume_apart_last, has_first, has_second, has_third, has_fourth}
-use Rattle.star_builder.proofs.Orthogonal.{four_in}
+use Rattle.star_builder.proofs.LowSimplices.{IsLow, IsGeneric, generic, low_first, low_middle, low_last, low_apart, low_member, member_low, has_first, has_second, has_third}
 use Rattle.star_builder.proofs.Planar.{wedge, lower_turn, left_apart}
-use Rattle.star_builder.proofs.Ridges.{shares_ridge}
+use Rattle.star_builder.proofs.Ridges.{HaveSame, same_then, same_first_two, same_middle_two, same_last_two, shares_ridge}
+use Rattle.star_builder.proofs.Sorting.{by_size}
 use Rattle.star_builder.proofs.UsedPoints.{IsUsed}
 use Rattle.star_builder.proofs.VertexPoints.{point_small}
 use Rattle.star_builder.proofs.WholeHeights.{whole}
@@ -41,45 +41,33 @@ module _ (g : Shape) (s : IsShape g) (w : List ℤ) (order : List ℕ) (all : Is
   star_generic = generic g.pair.dual g.points w order all (point_small g s)
 
   -- the four points of a low simplex stand together, in any order
-  record IsListed (a b c d : ℕ) : Type 0 where
-    members : List ℕ
-    within : Contains star members
-    has_a : Contains members a
-    has_b : Contains members b
-    has_c : Contains members c
-    has_d : Contains members d
+  module _ (facet : ℕ) (number : IsNumberOf g.pair.dual facet) (a b c d : ℕ) (low : IsLow g.points star_heights (entry g.pair.dual facet) a b c d) where
+    abbrev m : Vector
+    m = entry g.pair.dual facet
 
-  module _ (facet : ℕ) (number : IsNumberOf g.pair.dual facet) where
-    abbrev IsLowHere : ℕ → ℕ → ℕ → ℕ → Type 0
-    IsLowHere = IsLow g.points star_heights (entry g.pair.dual facet)
+    abbrev Beside : ℕ → ℕ → ℕ → ℕ → Type 0
+    Beside x y z t = IsLow g.points star_heights m x y z t × HaveSame (a ∷ b ∷ c ∷ d ∷ []) (x ∷ y ∷ z ∷ t ∷ [])
 
-    low_listed : (a b c d : ℕ) → b ≢ a → c ≢ a → c ≢ b → d ≢ a → d ≢ b → d ≢ c → IsLowHere a b c d → IsListed a b c d
-    low_listed =
-        four_in (λ a b c d. IsLowHere a b c d → IsListed a b c d)
-        (λ a b c d f k. (let r = f (low_first g.points star_heights (entry g.pair.dual facet) a b c d k) in record { members = r.members; within = r.within; has_a = r.has_b; has_b = r.has_a; has_c = r.has_c; has_d = r.has_d }))
-        (λ a b c d f k. (let r = f (low_middle g.points star_heights (entry g.pair.dual facet) a b c d k) in record { members = r.members; within = r.within; has_a = r.has_a; has_b = r.has_c; has_c = r.has_b; has_d = r.has_d }))
-        (λ a b c d f k. (let r = f (low_last g.points star_heights (entry g.pair.dual facet) a b c d k) in record { members = r.members; within = r.within; has_a = r.has_a; has_b = r.has_b; has_c = r.has_d; has_d = r.has_c }))
-        (λ a b c d ab bc cd k. record {
-          members = a ∷ b ∷ c ∷ d ∷ [];
-          within = is.complete (a ∷ b ∷ c ∷ d ∷ []) (low_member g.pair.dual g.points w order all (point_small g s) facet number a b c d ab bc cd k);
-          has_a = has_first a b c d;
-          has_b = has_second a b c d;
-          has_c = has_third a b c d;
-          has_d = has_fourth a b c d;
-        })
+    sorted : (x : ℕ) × (y : ℕ) × (z : ℕ) × (t : ℕ) × (x < y) × (y < z) × (z < t) × Beside x y z t
+    sorted =
+        by_size Beside
+        (λ x y z t h. (low_first g.points star_heights m x y z t h.0, same_then (a ∷ b ∷ c ∷ d ∷ []) (x ∷ y ∷ z ∷ t ∷ []) (y ∷ x ∷ z ∷ t ∷ []) h.1 (same_first_two x y z t)))
+        (λ x y z t h. (low_middle g.points star_heights m x y z t h.0, same_then (a ∷ b ∷ c ∷ d ∷ []) (x ∷ y ∷ z ∷ t ∷ []) (x ∷ z ∷ y ∷ t ∷ []) h.1 (same_middle_two x y z t)))
+        (λ x y z t h. (low_last g.points star_heights m x y z t h.0, same_then (a ∷ b ∷ c ∷ d ∷ []) (x ∷ y ∷ z ∷ t ∷ []) (x ∷ y ∷ t ∷ z ∷ []) h.1 (same_last_two x y z t)))
+        (λ x y z t h. low_apart g.points star_heights m x y z t h.0)
+        a b c d (low, (λ n h. h, λ n h. h))
 
-    low_together : (a b c d : ℕ) → IsLowHere a b c d → AreTogether star a b c
-    low_together a b c d k =
-        let xs = g.points in
-        let m = entry g.pair.dual facet in
-        let acbd = low_middle xs star_heights m a b c d k in
-        let abdc = low_last xs star_heights m a b c d k in
-        let adbc = low_middle xs star_heights m a b d c abdc in
-        let flip = (λ (i : ℕ) (j : ℕ) (n : i ≢ j) (e : j ≡ i). n (sym e)) in
-        let r = low_listed a b c d
-        (flip a b (volume_apart_first xs star_heights m a b c d k.independent)) (flip a c (volume_apart_first xs star_heights m a c b d acbd.independent)) (flip b c (volume_apart_middle xs star_heights m a b c d k.independent))
-        (flip a d (volume_apart_first xs star_heights m a d b c adbc.independent)) (flip b d (volume_apart_middle xs star_heights m a b d c abdc.independent)) (flip c d (volume_apart_last xs star_heights m a b c d k.independent)) k in
-        (r.members, r.within, r.has_a, r.has_b, r.has_c)
+    together_in : (x : ℕ) × (y : ℕ) × (z : ℕ) × (t : ℕ) × (x < y) × (y < z) × (z < t) × Beside x y z t → AreTogether star a b c
+    together_in (x, y, z, t, xy, yz, zt, (l, same)) = (
+      x ∷ y ∷ z ∷ t ∷ [],
+      is.complete (x ∷ y ∷ z ∷ t ∷ []) (low_member g.pair.dual g.points w order all (point_small g s) facet number x y z t xy yz zt l),
+      same.0 a (has_first a b c d),
+      same.0 b (has_second a b c d),
+      same.0 c (has_third a b c d),
+    )
+
+    low_together : AreTogether star a b c
+    low_together = together_in sorted
 
   -- three points that stand together are part of a low simplex
   together_low : (a b c : ℕ) → a < b → b < c → AreTogether star a b c → (m : Vector) × (d : ℕ) × IsLow g.points star_heights m a b c d
