@@ -21,7 +21,7 @@ use Rattle.ntfe_model.proofs.FoldPlanes.{AreFoldsPositive, above_gives_folds, le
 -- ---- whole numbers
 
 -- a factor that is not negative keeps an order
-pub times_keeps : (k x y : ℤ) → pos 0 ≤ℤ k → x ≤ℤ y → (k *ℤ x) ≤ℤ (k *ℤ y)
+times_keeps : (k x y : ℤ) → pos 0 ≤ℤ k → x ≤ℤ y → (k *ℤ x) ≤ℤ (k *ℤ y)
 times_keeps (negsuc n) x y l m = absurd (omega (arith, ints, l))
 times_keeps (pos zero) x y l m = zeros (pos 0 *ℤ x) (pos 0 *ℤ y) (omega (arith, ints)) (omega (arith, ints))
   where
@@ -46,7 +46,7 @@ times_keeps (pos (suc n)) x y l m = by (y -ℤ x) refl
     by (negsuc k) e = absurd (omega (arith, ints, m, e))
 
 -- a positive factor may be left out
-pub factor_out : (k x y : ℤ) → pos 0 <ℤ k → (k *ℤ x) ≤ℤ (k *ℤ y) → x ≤ℤ y
+factor_out : (k x y : ℤ) → pos 0 <ℤ k → (k *ℤ x) ≤ℤ (k *ℤ y) → x ≤ℤ y
 factor_out k x y l m = by (negative_or (y -ℤ x))
   where
     back : pos 0 ≤ℤ (y -ℤ x) → x ≤ℤ y
@@ -123,7 +123,7 @@ area_odd h a b c =
     ∙ ap neg_ℤ (area_turn (axes h) (place h a) (place h b) (place h c))
 
 -- three corners that turn to the left, of a triple that does so, are its corners in its order
-pub corners_in_order : (h : Patch) (t : Triangle) (a b c : ℕ) → pos 0 <ℤ area_of h t.a t.b t.c → pos 0 <ℤ area_of h a b c → IsCornerOf t a → IsCornerOf t b → IsCornerOf t c → IsRotationOf t a b c
+corners_in_order : (h : Patch) (t : Triangle) (a b c : ℕ) → pos 0 <ℤ area_of h t.a t.b t.c → pos 0 <ℤ area_of h a b c → IsCornerOf t a → IsCornerOf t b → IsCornerOf t c → IsRotationOf t a b c
 corners_in_order h t a b c l m = by
   where
     no : (x : ℤ) → pos 0 <ℤ x → x ≡ pos 0 → ⊥

@@ -12,9 +12,9 @@ use Rattle.ntfe_model.specs.Points.{place_of_point}
 use Rattle.ntfe_model.specs.Shapes.{Shape, IsShape}
 use Rattle.ntfe_model.specs.Charts.{patch_at, axes, place, reached, IsOf, IsUnit}
 use Rattle.ntfe_model.proofs.GeometryPoints.{point_within, point_place}
-use Rattle.ntfe_model.proofs.PlaneNumbers.{sign_positive}
+use Rattle.ntfe_model.proofs.PlaneNumbers.{cancel_other, sign_positive}
 use Rattle.ntfe_model.proofs.UnitTriples.{area_of}
-use Rattle.star_builder.proofs.FourWeights.{IsMixOf, cancel_other}
+use Rattle.star_builder.proofs.FourWeights.{IsMixOf}
 use Rattle.star_builder.proofs.FacePlanes.{first_of, second_of, area_wedge, coordinate_mix, wedge_weight, wedge_sum, plane_mix}
 use Rattle.star_builder.proofs.FaceSimplices.{IsBelowFace}
 use Rattle.star_builder.proofs.MixedPoints.{mixed_point}

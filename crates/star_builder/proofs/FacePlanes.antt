@@ -7,7 +7,7 @@
 use Rattle.std.proofs.Common.{◌≡◌, ◌≢◌, ℕ, zero, suc, ◌+◌, ◌-◌, ◌<◌, ⊎_elim, refl, sym, ap, ◌∙◌, arith, ℤ, pos, negsuc, ◌+ℤ◌, ◌-ℤ◌, ◌*ℤ◌, neg_ℤ, [], ◌∷◌, length}
 use Rattle.std.specs.Prelude.{slice_index_or}
 use Rattle.std.proofs.lemmas.Int.{ints}
-use Rattle.ntfe_nums.specs.Vectors.{Vector, numbers, coordinate, area, cofactors, det4, dot}
+use Rattle.ntfe_nums.specs.Vectors.{Vector, origin, numbers, coordinate, area, cofactors, det4, dot}
 use Rattle.ntfe_nums.proofs.Ring.{ring}
 use Rattle.ntfe_nums.proofs.Ring.Expression.{var, num, plus, minus, times, neg}
 use Rattle.ntfe_nums.proofs.DetLemmas.{det4-cofactors}
@@ -19,10 +19,11 @@ use Rattle.ntfe_model.specs.Points.{place_of_point}
 use Rattle.ntfe_model.specs.Shapes.{Shape, IsShape, face_at}
 use Rattle.ntfe_model.specs.Charts.{patch_at, axes, IsOf}
 use Rattle.ntfe_model.proofs.GeometryPoints.{point_place}
-use Rattle.ntfe_model.proofs.PlaneNumbers.{zero_factor}
+use Rattle.ntfe_model.proofs.PlaneNumbers.{cancel_other, zero_factor}
 use Rattle.ntfe_model.proofs.UnitTriples.{area_of}
-use Rattle.star_builder.proofs.FourWeights.{Weights, IsMixOf, cramer, cramer_weights, dot_mix, cancel_other, weight1, weight2, weight3, weight4}
-use Rattle.star_builder.proofs.FacetPoints.{zero_on_four, not_always_zero, entry_in}
+use Rattle.star_builder.proofs.FourWeights.{Weights, IsMixOf, cramer, cramer_weights, dot_mix, weight1, weight2, weight3, weight4}
+use Rattle.star_builder.proofs.Normals.{form_fixed}
+use Rattle.star_builder.proofs.FacetPoints.{not_always_zero, entry_in}
 use Rattle.star_builder.proofs.FacePoints.{IsOutside, some_outside, distance, outside_far, face_point_tight, number_first}
 use Rattle.star_builder.proofs.Planar.{wedge, wedge_turn, lift, not_both}
 use Rattle.star_builder.proofs.Rises.{rise, volume}
@@ -116,9 +117,13 @@ module _ (g : Shape) (s : IsShape g) (f : ℕ) (within : f < length g.faces) (v 
     all_dependent : (d : ℕ) → IsOutside g s f within d → volume spot v a b c d ≡ pos 0 → (p : Vector) → det4 (spot a) (spot b) (spot c) p ≡ pos 0
     all_dependent d o z p =
         det4-cofactors (spot a) (spot b) (spot c) p
-        ∙ zero_on_four (cofactors (spot a) (spot b) (spot c)) (at g.pair.vertices r.i) (at g.pair.vertices r.j) (at g.pair.vertices r.k) (at g.pair.vertices r.l) r.four.independent
-        (none (at g.pair.vertices r.i)) (none (at g.pair.vertices r.j)) (none (at g.pair.vertices r.k)) (none (at g.pair.vertices r.l)) p
+        ∙ form_fixed (cofactors (spot a) (spot b) (spot c)) origin (at g.pair.vertices r.i) (at g.pair.vertices r.j) (at g.pair.vertices r.k) (at g.pair.vertices r.l) r.four.independent
+        (same (at g.pair.vertices r.i)) (same (at g.pair.vertices r.j)) (same (at g.pair.vertices r.k)) (same (at g.pair.vertices r.l)) p
+        ∙ nothing p
       where
+        nothing : (u : Vector) → dot origin u ≡ pos 0
+        nothing u = omega (arith, ints)
+
         r : IsTightOnFour first g.pair.vertices
         r = s.reflexive.facets first (entry_in g.pair.dual (face_at g f).first (number_first g s f within))
 
@@ -131,6 +136,9 @@ module _ (g : Shape) (s : IsShape g) (f : ℕ) (within : f < length g.faces) (v 
             let e = distance_weight m (spot d) u (cramer (spot a) (spot b) (spot c) (spot d) u) in
             ⊎_elim (λ i. sym (det4-cofactors (spot a) (spot b) (spot c) u) ∙ i) (λ i. absurd (not_both (distance g s f within (spot d)) (outside_far g s f within d o) i))
             (zero_factor (det4 (spot a) (spot b) (spot c) u) (distance g s f within (spot d)) (left_out m.k (distance g s f within u) (m.l4 *ℤ distance g s f within (spot d)) z e))
+
+        same : (u : Vector) → dot (cofactors (spot a) (spot b) (spot c)) u ≡ dot origin u
+        same u = none u ∙ sym (nothing u)
 
     -- a point of the face as a mixture of three that are independent of a point outside
     abbrev base : ℕ

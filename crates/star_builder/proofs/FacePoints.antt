@@ -18,7 +18,9 @@ use Rattle.ntfe_model.specs.Charts.{patch_at, IsOf}
 use Rattle.ntfe_model.proofs.Listings.{Contains-filter, listing_range}
 use Rattle.ntfe_model.proofs.GeometryPoints.{numbers_of}
 use Rattle.ntfe_model.proofs.Triples.{Decided}
-use Rattle.star_builder.proofs.FacetPoints.{int_eq_from, int_eq_to, decide_equal, same_on_four, same_form, entry_in, place_in, entries_apart, vertex_number}
+use Rattle.star_builder.proofs.Normals.{normal_fixed}
+use Rattle.star_builder.proofs.FacetPoints.{int_eq_from, int_eq_to, decide_equal, entry_in, place_in, entries_apart}
+use Rattle.star_builder.proofs.VertexPoints.{vertex_number}
 
 -- ---- lists
 
@@ -118,8 +120,8 @@ module _ (g : Shape) (s : IsShape g) (f : ℕ) (within : f < length g.faces) whe
       by (inl e) (inl e') (inl e'') (inr n) = found r.l r.rising.3 r.four.fourth n
       by (inl e1) (inl e2) (inl e3) (inl e4) =
           absurd (entries_apart g.pair.dual s.reflexive.distinct_dual (face_at g f).first (face_at g f).second number_first number_second face_is.meet.ordered.1
-          (same_form first second (same_on_four first second (at g.pair.vertices r.i) (at g.pair.vertices r.j) (at g.pair.vertices r.k) (at g.pair.vertices r.l) r.four.independent
-          (r.four.first ∙ sym e1) (r.four.second ∙ sym e2) (r.four.third ∙ sym e3) (r.four.fourth ∙ sym e4))))
+          (normal_fixed first second (at g.pair.vertices r.i) (at g.pair.vertices r.j) (at g.pair.vertices r.k) (at g.pair.vertices r.l) r.four.independent
+          (r.four.first ∙ sym e1) (r.four.second ∙ sym e2) (r.four.third ∙ sym e3) (r.four.fourth ∙ sym e4)))
 
   -- the distance from the two-face, counted by the second facet
   abbrev pub distance : Vector → ℤ

@@ -16,8 +16,8 @@ use Rattle.ntfe_model.specs.Points.{place_of_point}
 use Rattle.ntfe_model.specs.Shapes.{Shape, IsShape, face_at}
 use Rattle.ntfe_model.specs.Charts.{patch_at, IsOf}
 use Rattle.ntfe_model.proofs.GeometryPoints.{point_within}
-use Rattle.ntfe_model.proofs.PlaneNumbers.{positive_factor, zero_factor}
-use Rattle.star_builder.proofs.FourWeights.{dot_mix, cancel_other}
+use Rattle.ntfe_model.proofs.PlaneNumbers.{cancel_other, positive_factor, zero_factor}
+use Rattle.star_builder.proofs.FourWeights.{dot_mix}
 use Rattle.star_builder.proofs.FacePlanes.{first_of, second_of, plane_weights, wedge_sum, outside_apart, plane_mix, plane_volume, plane_rise}
 use Rattle.star_builder.proofs.FacetMembers.{lifted_along}
 use Rattle.star_builder.proofs.FacePoints.{facet_below, number_second, IsOutside, some_outside, distance, outside_far, face_point_tight, tight_face_point}

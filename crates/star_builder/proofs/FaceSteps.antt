@@ -15,10 +15,10 @@ use Rattle.ntfe_model.specs.Shapes.{Shape, IsShape}
 use Rattle.ntfe_model.specs.Charts.{patch_at, place, turn, spot_numbers, IsOf, IsOnSegment, IsStep}
 use Rattle.ntfe_model.proofs.GeometryPoints.{point_within, point_place}
 use Rattle.ntfe_model.proofs.Listings.{Contains-here, Contains-there, Contains-cases, Contains-none}
-use Rattle.ntfe_model.proofs.PlaneNumbers.{sign_negative}
+use Rattle.ntfe_model.proofs.PlaneNumbers.{cancel_other, sign_negative}
 use Rattle.ntfe_model.proofs.Triples.{Decided, decide_number}
 use Rattle.ntfe_model.proofs.UnitTriples.{area_of}
-use Rattle.star_builder.proofs.FourWeights.{IsMixOf, mixed_sum, cancel_other}
+use Rattle.star_builder.proofs.FourWeights.{IsMixOf, mixed_sum}
 use Rattle.star_builder.proofs.EmptyTriples.{empty_triple}
 use Rattle.star_builder.proofs.FaceLevels.{face_apart}
 use Rattle.star_builder.proofs.FacePlanes.{first_of, second_of, area_wedge, wedge_sum, plane_mix}

@@ -1,11 +1,10 @@
 -- Four independent vectors mix to any other by Cramer's rule, and what the weights of a mixture are.
-use Rattle.std.proofs.Common.{◌≡◌, ◌≢◌, zero, suc, refl, sym, ap, ◌∙◌, arith, ℤ, pos, negsuc, ◌+ℤ◌, ◌*ℤ◌, neg_ℤ, [], ◌∷◌}
+use Rattle.std.proofs.Common.{◌≡◌, refl, sym, ap, ◌∙◌, arith, ℤ, pos, ◌+ℤ◌, ◌*ℤ◌, [], ◌∷◌}
 use Rattle.std.proofs.lemmas.Int.{ints}
 use Rattle.ntfe_nums.specs.Vectors.{Vector, vector_sum, multiple, dot, det4, cofactors}
 use Rattle.ntfe_nums.proofs.Ring.{Expression, ring}
-use Rattle.ntfe_nums.proofs.Ring.Expression.{var, num, plus, times, neg}
+use Rattle.ntfe_nums.proofs.Ring.Expression.{var, num, plus, times}
 use Rattle.ntfe_nums.proofs.DetLemmas.{Row, row, dotE, det4E, normalE, of4, det4-cofactors, of5}
-use Rattle.ntfe_model.proofs.PlaneNumbers.{cancel}
 
 -- k times a point is l1 a + l2 b + l3 c + l4 d
 pub record Weights : Type 0 where
@@ -101,14 +100,6 @@ weight4 m a b c d p e =
   where
     only : (x y z v : ℤ) → x ≡ pos 0 → y ≡ pos 0 → z ≡ pos 0 → x +ℤ (y +ℤ (z +ℤ v)) ≡ v
     only x y z v f g h = omega (arith, ints, f, g, h)
-
--- a factor that is not 0 may be left out
-pub cancel_other : (x y k : ℤ) → k ≢ pos 0 → x *ℤ k ≡ y *ℤ k → x ≡ y
-cancel_other x y (pos zero) n e = absurd (n refl)
-cancel_other x y (pos (suc k)) n e = cancel x y (pos (suc k)) (omega (arith, ints)) e
-cancel_other x y (negsuc k) n e =
-    let q : (z : ℤ) → z *ℤ neg_ℤ (negsuc k) ≡ neg_ℤ (z *ℤ negsuc k) = (λ z. ring (z ∷ negsuc k ∷ []) (times (var 0) (neg (var 1))) (neg (times (var 0) (var 1))) refl) in
-    cancel x y (neg_ℤ (negsuc k)) (omega (arith, ints)) (q x ∙ ap neg_ℤ e ∙ sym (q y))
 
 -- ---- Cramer's rule
 

@@ -12,7 +12,7 @@ use Rattle.ntfe_model.specs.Triangulations.{IsFine}
 use Rattle.ntfe_model.specs.declared.triangle.Triangle.{Triangle}
 use Rattle.ntfe_model.proofs.GeometryPoints.{numbers_of, point_small, point_within, point_place}
 use Rattle.ntfe_model.proofs.UnitTriples.{area_of}
-use Rattle.star_builder.proofs.FacetPoints.{vertex_number}
+use Rattle.star_builder.proofs.VertexPoints.{vertex_number}
 use Rattle.star_builder.proofs.FaceLevels.{face_apart}
 use Rattle.star_builder.proofs.FacePoints.{face_is, tight_face_point}
 use Rattle.star_builder.proofs.FacePlanes.{area_wedge, line_of_all}

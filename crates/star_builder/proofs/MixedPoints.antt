@@ -17,8 +17,10 @@ use Rattle.ntfe_model.specs.Charts.{patch_at, IsOf}
 use Rattle.ntfe_model.specs.declared.point.Point.{Point}
 use Rattle.ntfe_model.proofs.GeometryPoints.{point_within}
 use Rattle.ntfe_model.proofs.Listings.{Contains-filter, listing_range}
-use Rattle.star_builder.proofs.FourWeights.{IsMixOf, dot_mix, cancel_other}
-use Rattle.star_builder.proofs.FacetPoints.{int_eq_to, two_members}
+use Rattle.ntfe_model.proofs.PlaneNumbers.{cancel_other}
+use Rattle.star_builder.proofs.FourWeights.{IsMixOf, dot_mix}
+use Rattle.star_builder.proofs.FacetPoints.{int_eq_to}
+use Rattle.star_builder.proofs.VertexPoints.{two_members}
 use Rattle.star_builder.proofs.FacePoints.{face_is, face_point_tight, tight_face_point, number_first, number_second}
 use Rattle.star_builder.proofs.Planar.{not_both}
 use Rattle.ntfe_nums.proofs.Signs.{negative_or, product_not_negative}

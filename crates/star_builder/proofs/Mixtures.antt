@@ -1,15 +1,15 @@
 -- A point as a mixture of four others: Cramer's rule gives the multipliers, and where the four are independent there are no others.
-use Rattle.std.proofs.Common.{◌≡◌, ◌≢◌, ℕ, ◌+◌, ◌∙◌, ⊎_elim, refl, sym, ap, subst, ℤ, pos, negsuc, ◌+ℤ◌, ◌-ℤ◌, ◌*ℤ◌, ◌<ℤ◌, ◌≤ℤ◌, neg_ℤ, List, [], ◌∷◌, map, unsigned_abs, arith}
+use Rattle.std.proofs.Common.{◌≡◌, ℕ, ◌∙◌, refl, sym, ap, subst, ℤ, pos, negsuc, ◌+ℤ◌, ◌-ℤ◌, ◌*ℤ◌, ◌<ℤ◌, ◌≤ℤ◌, neg_ℤ, List, [], ◌∷◌, map, unsigned_abs, arith}
 use Rattle.std.proofs.lemmas.Int.{ints}
 use Rattle.ntfe_nums.specs.Vectors.{Vector, vector_sum, multiple, det4, AreLinearlyIndependent}
 use Rattle.ntfe_model.specs.Points.{place_of_point}
 use Rattle.ntfe_model.specs.Choices.{height}
 use Rattle.ntfe_model.specs.Stars.{IsMixture, IsLexAbove, IsFirstPositive, push_coefficient}
 use Rattle.ntfe_model.specs.declared.point.Point.{Point}
-use Rattle.ntfe_nums.proofs.Ring.{Expression, ring}
-use Rattle.ntfe_nums.proofs.Ring.Expression.{var, plus, minus, times, neg}
-use Rattle.ntfe_nums.proofs.DetLemmas.{Row, row, det4E, of5}
-use Rattle.ntfe_model.proofs.PlaneNumbers.{zero_factor}
+use Rattle.ntfe_nums.proofs.Ring.{ring}
+use Rattle.ntfe_nums.proofs.Ring.Expression.{var, plus, times, neg}
+use Rattle.star_builder.proofs.FourPoints.{factors_fixed}
+use Rattle.star_builder.proofs.FourWeights.{cramer}
 
 -- z, turned over where the determinant is negative
 abbrev pub turned : ℤ → ℤ → ℤ
@@ -17,25 +17,6 @@ turned (pos n) z = z
 turned (negsuc n) z = neg_ℤ z
 
 -- ---- Cramer's rule
-
--- the sum of four determinants, each times one of the four numbers
-abbrev cramer_sum : Expression → Expression → Expression → Expression → Expression
-cramer_sum x y z u =
-    plus (times (det4E (row 16) (row 4) (row 8) (row 12)) x) (plus (times (det4E (row 0) (row 16) (row 8) (row 12)) y)
-    (plus (times (det4E (row 0) (row 4) (row 16) (row 12)) z) (times (det4E (row 0) (row 4) (row 8) (row 16)) u)))
-
-abbrev det_times : Expression → Expression
-det_times x = times (det4E (row 0) (row 4) (row 8) (row 12)) x
-
-pub cramer : (a b c d p : Vector) → multiple (det4 a b c d) p
-    ≡ vector_sum (multiple (det4 p b c d) a) (vector_sum (multiple (det4 a p c d) b) (vector_sum (multiple (det4 a b p d) c) (multiple (det4 a b c p) d)))
-unfolding det4
-cramer a b c d p = λ i. record {
-  x1 = ring (of5 a b c d p) (det_times (var 16)) (cramer_sum (var 0) (var 4) (var 8) (var 12)) refl i;
-  x2 = ring (of5 a b c d p) (det_times (var 17)) (cramer_sum (var 1) (var 5) (var 9) (var 13)) refl i;
-  x3 = ring (of5 a b c d p) (det_times (var 18)) (cramer_sum (var 2) (var 6) (var 10) (var 14)) refl i;
-  x4 = ring (of5 a b c d p) (det_times (var 19)) (cramer_sum (var 3) (var 7) (var 11) (var 15)) refl i;
-}
 
 turned_vector : (t : ℤ) (k l m n : ℤ) (a b c d p : Vector)
     → multiple t p ≡ vector_sum (multiple k a) (vector_sum (multiple l b) (vector_sum (multiple m c) (multiple n d)))
@@ -78,59 +59,6 @@ module _ (xs : List Point) (a b c d p : ℕ) where
 
 -- ---- there are no others
 
-abbrev mixed : ℤ → ℤ → ℤ → ℤ → Vector → Vector → Vector → Vector → Vector
-mixed k l m n a b c d = vector_sum (multiple k a) (vector_sum (multiple l b) (vector_sum (multiple m c) (multiple n d)))
-
--- a row of the sums of four products, over the variables of four vectors and of four multipliers behind them
-abbrev entryE : ℕ → Expression
-entryE i = plus (times (var 16) (var i)) (plus (times (var 17) (var (4 + i))) (plus (times (var 18) (var (8 + i))) (times (var 19) (var (12 + i)))))
-
-abbrev mixedE : Row
-mixedE = record { x1 = entryE 0; x2 = entryE 1; x3 = entryE 2; x4 = entryE 3 }
-
-abbrev of4_with : Vector → Vector → Vector → Vector → ℤ → ℤ → ℤ → ℤ → List ℤ
-of4_with a b c d k l m n = of5 a b c d (record { x1 = k; x2 = l; x3 = m; x4 = n })
-
-module _ (k l m n : ℤ) (a b c d : Vector) where
-  first_multiplier : det4 (mixed k l m n a b c d) b c d ≡ k *ℤ det4 a b c d
-  unfolding det4
-  first_multiplier = ring (of4_with a b c d k l m n) (det4E mixedE (row 4) (row 8) (row 12)) (times (var 16) (det4E (row 0) (row 4) (row 8) (row 12))) refl
-
-  second_multiplier : det4 a (mixed k l m n a b c d) c d ≡ l *ℤ det4 a b c d
-  unfolding det4
-  second_multiplier = ring (of4_with a b c d k l m n) (det4E (row 0) mixedE (row 8) (row 12)) (times (var 17) (det4E (row 0) (row 4) (row 8) (row 12))) refl
-
-  third_multiplier : det4 a b (mixed k l m n a b c d) d ≡ m *ℤ det4 a b c d
-  unfolding det4
-  third_multiplier = ring (of4_with a b c d k l m n) (det4E (row 0) (row 4) mixedE (row 12)) (times (var 18) (det4E (row 0) (row 4) (row 8) (row 12))) refl
-
-  fourth_multiplier : det4 a b c (mixed k l m n a b c d) ≡ n *ℤ det4 a b c d
-  unfolding det4
-  fourth_multiplier = ring (of4_with a b c d k l m n) (det4E (row 0) (row 4) (row 8) mixedE) (times (var 19) (det4E (row 0) (row 4) (row 8) (row 12))) refl
-
-pub same_factor : (x y k : ℤ) → k ≢ pos 0 → x *ℤ k ≡ y *ℤ k → x ≡ y
-same_factor x y k ne e =
-    let q : (x -ℤ y) *ℤ k ≡ x *ℤ k -ℤ y *ℤ k = ring (x ∷ y ∷ k ∷ []) (times (minus (var 0) (var 1)) (var 2)) (minus (times (var 0) (var 2)) (times (var 1) (var 2))) refl in
-    ⊎_elim (λ z. same x y z) (λ z. absurd (ne z)) (zero_factor (x -ℤ y) k (q ∙ apart (x *ℤ k) (y *ℤ k) e))
-  where
-    same : (u v : ℤ) → u -ℤ v ≡ pos 0 → u ≡ v
-    same u v z = omega (arith, ints, z)
-
-    apart : (u v : ℤ) → u ≡ v → u -ℤ v ≡ pos 0
-    apart u v z = omega (arith, ints, z)
-
--- independent vectors have one mixture with this sum
-pub same_multipliers : (k l m n k' l' m' n' : ℤ) (a b c d : Vector) → AreLinearlyIndependent a b c d
-    → vector_sum (multiple k a) (vector_sum (multiple l b) (vector_sum (multiple m c) (multiple n d)))
-    ≡ vector_sum (multiple k' a) (vector_sum (multiple l' b) (vector_sum (multiple m' c) (multiple n' d)))
-    → (k ≡ k') × (l ≡ l') × (m ≡ m') × (n ≡ n')
-same_multipliers k l m n k' l' m' n' a b c d ne e = (
-  same_factor k k' (det4 a b c d) ne (sym (first_multiplier k l m n a b c d) ∙ ap (λ v. det4 v b c d) e ∙ first_multiplier k' l' m' n' a b c d),
-  same_factor l l' (det4 a b c d) ne (sym (second_multiplier k l m n a b c d) ∙ ap (λ v. det4 a v c d) e ∙ second_multiplier k' l' m' n' a b c d),
-  same_factor m m' (det4 a b c d) ne (sym (third_multiplier k l m n a b c d) ∙ ap (λ v. det4 a b v d) e ∙ third_multiplier k' l' m' n' a b c d),
-  same_factor n n' (det4 a b c d) ne (sym (fourth_multiplier k l m n a b c d) ∙ ap (λ v. det4 a b c v) e ∙ fourth_multiplier k' l' m' n' a b c d),
-)
-
 -- two mixtures of independent points are the same
 pub mixture_unique : (xs : List Point) (a b c d p : ℕ) (size l1 l2 l3 l4 size' m1 m2 m3 m4 : ℤ)
     → AreLinearlyIndependent (place_of_point xs a) (place_of_point xs b) (place_of_point xs c) (place_of_point xs d)
@@ -138,7 +66,7 @@ pub mixture_unique : (xs : List Point) (a b c d p : ℕ) (size l1 l2 l3 l4 size'
     → (size ≡ size') × (l1 ≡ m1) × (l2 ≡ m2) × (l3 ≡ m3) × (l4 ≡ m4)
 mixture_unique xs a b c d p size l1 l2 l3 l4 size' m1 m2 m3 m4 ne x y =
     let e : size ≡ size' = x.size_is ∙ sym y.size_is in
-    let f = same_multipliers l1 l2 l3 l4 m1 m2 m3 m4 (place_of_point xs a) (place_of_point xs b) (place_of_point xs c) (place_of_point xs d) ne
+    let f = factors_fixed (place_of_point xs a) (place_of_point xs b) (place_of_point xs c) (place_of_point xs d) ne l1 l2 l3 l4 m1 m2 m3 m4
     (sym x.mix ∙ ap (λ s. multiple s (place_of_point xs p)) e ∙ y.mix) in
     (e, f.0, f.1, f.2, f.3)
 

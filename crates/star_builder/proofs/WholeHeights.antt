@@ -24,7 +24,8 @@ use Rattle.ntfe_model.proofs.Triples.{Decided}
 use Rattle.ntfe_nums.proofs.Exchanges.{cramer2, cramer3, cramer4}
 use Rattle.ntfe_nums.proofs.Comparisons.{same_from_test, other_from_test, cond_is}
 use Rattle.ntfe_nums.proofs.Signs.{not_negative, positive_product, product_not_negative, zero_not_negative}
-use Rattle.star_builder.proofs.FourPoints.{one_at, one_here, one_elsewhere, factors_fixed}
+use Rattle.star_builder.proofs.FourPoints.{one_at, one_here, one_elsewhere}
+use Rattle.star_builder.proofs.Mixtures.{rises_of_above}
 use Rattle.star_builder.proofs.Rises.{rise, volume}
 use Rattle.star_builder.proofs.Weights.{weight, weighed, leader_decides}
 
@@ -279,13 +280,6 @@ module _ (w : List ℤ) (order : List ℕ) where
     mixture : IsMixture xs a b c d p size0 m1 m2 m3 m4
     mixture = record { size_is = sym (size_of_sign (det a b c d)); mix = mix }
 
-    -- every mixture has these multipliers
-    multipliers : (size l1 l2 l3 l4 : ℤ) → IsMixture xs a b c d p size l1 l2 l3 l4 → (size ≡ size0) × (l1 ≡ m1) × (l2 ≡ m2) × (l3 ≡ m3) × (l4 ≡ m4)
-    multipliers size l1 l2 l3 l4 m =
-        let e : size ≡ size0 = m.size_is ∙ size_of_sign (det a b c d) in
-        let f = factors_fixed (at a) (at b) (at c) (at d) independent l1 l2 l3 l4 m1 m2 m3 m4 (sym m.mix ∙ ap (λ k. multiple k (at p)) e ∙ mix) in
-        (e, f.0, f.1, f.2, f.3)
-
     abbrev coefficient : ℕ → ℤ
     coefficient = push_coefficient size0 (a, m1) (b, m2) (c, m3) (d, m4) p
 
@@ -302,11 +296,7 @@ module _ (w : List ℤ) (order : List ℕ) where
         (times (var 11) (minus (t 0) (plus (plus (plus (t 1) (t 2)) (t 3)) (t 4)))) refl
 
     lex_leads : IsLexAbove xs w order a b c d p → IsFirstPositive (head ∷ map coefficient order)
-    lex_leads r =
-        let e = multipliers r.size r.l1 r.l2 r.l3 r.l4 r.mixture in
-        subst (λ (zs : List ℤ). IsFirstPositive zs)
-        (λ t. four_factors (e.0 t) (e.1 t) (e.2 t) (e.3 t) (e.4 t) (height w p) (height w a) (height w b) (height w c) (height w d)
-        ∷ map (push_coefficient (e.0 t) (a, e.1 t) (b, e.2 t) (c, e.3 t) (d, e.4 t) p) order) r.above
+    lex_leads r = rises_of_above xs w order a b c d p size0 m1 m2 m3 m4 independent mixture r
 
     leads_lex : IsFirstPositive (head ∷ map coefficient order) → IsLexAbove xs w order a b c d p
     leads_lex f = record { l1 = m1; l2 = m2; l3 = m3; l4 = m4; size = size0; mixture = mixture; above = f }
