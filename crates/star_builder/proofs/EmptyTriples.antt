@@ -18,8 +18,8 @@ use Rattle.star_builder.proofs.FourWeights.{IsMixOf}
 use Rattle.star_builder.proofs.FacePlanes.{first_of, second_of, area_wedge, coordinate_mix, wedge_weight, wedge_sum, plane_mix}
 use Rattle.star_builder.proofs.FaceSimplices.{IsBelowFace}
 use Rattle.star_builder.proofs.MixedPoints.{mixed_point}
-use Rattle.star_builder.proofs.Planar.{wedge, wedge_turn, wedge_outer, wedge_last, not_both}
-use Rattle.ntfe_nums.proofs.Signs.{negative_or, same_or}
+use Rattle.star_builder.proofs.Planar.{wedge, wedge_turn, wedge_outer, wedge_last}
+use Rattle.ntfe_nums.proofs.Signs.{negative_or, same_or, positive_some, zero_minus}
 use Rattle.star_builder.proofs.UsedPoints.{IsUsed, three_weights, used_below}
 
 -- ---- fractions
@@ -53,14 +53,11 @@ parted (pos m) (negsuc n) l = by (parted_nat m n (omega (arith, ints, l)))
       is = turned (p.quotient *ℤ pos m) p.rest p.is ∙ ring (p.quotient ∷ pos m ∷ p.rest ∷ [])
           (minus (minus (minus (num (pos 0)) (times (var 0) (var 1))) (var 2)) (num (pos 1)))
           (plus (times (minus (minus (num (pos 0)) (var 0)) (num (pos 1))) (var 1)) (minus (minus (var 1) (num (pos 1))) (var 2))) refl
-          ∙ (λ i. (zero_less p.quotient i -ℤ pos 1) *ℤ pos m +ℤ (pos m -ℤ pos 1 -ℤ p.rest));
+          ∙ (λ i. (zero_minus p.quotient i -ℤ pos 1) *ℤ pos m +ℤ (pos m -ℤ pos 1 -ℤ p.rest));
       low = (let h = p.high in omega (arith, ints, h));
       high = (let h = p.low in omega (arith, ints, h));
     }
       where
-        zero_less : (z : ℤ) → pos 0 -ℤ z ≡ neg_ℤ z
-        zero_less z = omega (arith, ints)
-
         turned : (x r : ℤ) → pos n ≡ x +ℤ r → negsuc n ≡ pos 0 -ℤ x -ℤ r -ℤ pos 1
         turned x r e = omega (arith, ints, e)
 
@@ -118,7 +115,7 @@ module _ (g : Shape) (s : IsShape g) (f : ℕ) (within : f < length g.faces) (v 
   oc = lower.points.2
 
   flat : wedged a b c ≢ pos 0
-  flat e = not_both (wedged a b c) lower.left e
+  flat e = positive_some (wedged a b c) lower.left e
 
   pub empty_triple : (p : ℕ) → On p → pos 0 ≤ℤ wedge (first_of g s f within v) (second_of g s f within v) v b c p → pos 0 ≤ℤ wedge (first_of g s f within v) (second_of g s f within v) v c a p
       → pos 0 ≤ℤ wedge (first_of g s f within v) (second_of g s f within v) v a b p → (p ≡ a) ⊎ ((p ≡ b) ⊎ (p ≡ c))

@@ -6,7 +6,7 @@ use Rattle.std.proofs.Common.{◌≡◌, ◌≢◌, ℕ, ◌<◌, ◌≤◌, ◌
 use Rattle.std.specs.Prelude.{Contains}
 use Rattle.std.proofs.lemmas.Int.{ints}
 use Rattle.ntfe_nums.specs.Vectors.{Vector}
-use Rattle.ntfe_nums.proofs.Signs.{product_exchanged, zero_not_negative}
+use Rattle.ntfe_nums.proofs.Signs.{product_exchanged, zero_not_negative, positive_some, three_orders}
 use Rattle.ntfe_model.specs.Lists.{IsNumberOf}
 use Rattle.ntfe_model.specs.Pairs.{entry}
 use Rattle.ntfe_model.specs.Points.{place_of_point}
@@ -26,23 +26,20 @@ use Rattle.star_builder.proofs.FacePlanes.{first_of, second_of, area_wedge, outs
 use Rattle.star_builder.proofs.FacePoints.{some_outside}
 use Rattle.star_builder.proofs.FaceSimplices.{IsBelowFace, outside_face, rise_of_lift, lift_of_rise, lift_least}
 use Rattle.star_builder.proofs.LowSimplices.{in_order, volume_five}
-use Rattle.star_builder.proofs.Planar.{wedge, lift, lift_first, lift_second, lift_third, not_both}
+use Rattle.star_builder.proofs.Planar.{wedge, lift, lift_first, lift_second, lift_third}
 use Rattle.star_builder.proofs.Rises.{volume}
 use Rattle.star_builder.proofs.VertexPoints.{point_small}
 use Rattle.star_builder.proofs.WholeHeights.{AreFive, whole, rises_up, rises_least}
 
 module _ (g : Shape) (s : IsShape g) (f : ℕ) (within : f < length g.faces) where
   pub face_apart : AreApart (patch_at g f)
-  face_apart a b i j e = by (three a b)
+  face_apart a b i j e = by (three_orders a b)
     where
       range : (c : ℕ) → IsOf (patch_at g f) c → (1 ≤ c) × (c ≤ length g.points)
       range c o = point_within g s f within c o
 
       same : place_of_point g.points a ≡ place_of_point g.points b
       same = sym (point_place g s f within a i) ∙ e ∙ point_place g s f within b j
-
-      three : (c d : ℕ) → (c < d) ⊎ ((c ≡ d) ⊎ (d < c))
-      three c d = grind arith
 
       by : (a < b) ⊎ ((a ≡ b) ⊎ (b < a)) → a ≡ b
       by (inl q) = absurd (places_apart g.pair g.points s.points a b (range a i).0 q (range b j).1 same)
@@ -78,7 +75,7 @@ module _ (g : Shape) (s : IsShape g) (f : ℕ) (within : f < length g.faces) whe
       spot = place_of_point g.points
 
       independent : volume spot v a b c out ≢ pos 0
-      independent = outside_apart g s f within v a b c oa ob oc (not_both (wedge X Y v a b c) left) out (some_outside g s f within).1
+      independent = outside_apart g s f within v a b c oa ob oc (positive_some (wedge X Y v a b c) left) out (some_outside g s f within).1
 
       five : AreFive a b c out p
       five = volume_five g.points v (entry g.pair.dual (face_at g f).first) a b c out p independent pa pb pc (outside_face g s f within v out (some_outside g s f within).1 p op)

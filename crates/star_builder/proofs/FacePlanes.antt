@@ -8,10 +8,10 @@ use Rattle.std.proofs.Common.{◌≡◌, ◌≢◌, ℕ, zero, suc, ◌+◌, ◌
 use Rattle.std.specs.Prelude.{slice_index_or}
 use Rattle.std.proofs.lemmas.Int.{ints}
 use Rattle.ntfe_nums.specs.Vectors.{Vector, origin, numbers, coordinate, area, cofactors, det4, dot}
-use Rattle.ntfe_nums.proofs.Ring.{ring}
-use Rattle.ntfe_nums.proofs.Ring.Expression.{var, num, plus, minus, times, neg}
+use Rattle.ntfe_nums.proofs.Ring.{ring, zero_product, product_neg}
+use Rattle.ntfe_nums.proofs.Ring.Expression.{var, num, plus, minus, times}
 use Rattle.ntfe_nums.proofs.DetLemmas.{det4-cofactors}
-use Rattle.ntfe_nums.proofs.Signs.{zero_out}
+use Rattle.ntfe_nums.proofs.Signs.{zero_out, positive_some}
 use Rattle.ntfe_nums.proofs.Exchanges.{swap_last, second_last, first_last}
 use Rattle.ntfe_model.specs.Pairs.{entry}
 use Rattle.ntfe_model.specs.Reflexive.{IsTightOnFour, at}
@@ -25,7 +25,7 @@ use Rattle.star_builder.proofs.FourWeights.{Weights, IsMixOf, cramer, cramer_wei
 use Rattle.star_builder.proofs.Normals.{form_fixed}
 use Rattle.star_builder.proofs.FacetPoints.{not_always_zero, entry_in}
 use Rattle.star_builder.proofs.FacePoints.{IsOutside, some_outside, distance, outside_far, face_point_tight, number_first}
-use Rattle.star_builder.proofs.Planar.{wedge, wedge_turn, lift, not_both}
+use Rattle.star_builder.proofs.Planar.{wedge, wedge_turn, lift}
 use Rattle.star_builder.proofs.Rises.{rise, volume}
 
 -- ---- coordinates of mixtures
@@ -134,7 +134,7 @@ module _ (g : Shape) (s : IsShape g) (f : ℕ) (within : f < length g.faces) (v 
         none u =
             let m = cramer_weights (spot a) (spot b) (spot c) (spot d) u in
             let e = distance_weight m (spot d) u (cramer (spot a) (spot b) (spot c) (spot d) u) in
-            ⊎_elim (λ i. sym (det4-cofactors (spot a) (spot b) (spot c) u) ∙ i) (λ i. absurd (not_both (distance g s f within (spot d)) (outside_far g s f within d o) i))
+            ⊎_elim (λ i. sym (det4-cofactors (spot a) (spot b) (spot c) u) ∙ i) (λ i. absurd (positive_some (distance g s f within (spot d)) (outside_far g s f within d o) i))
             (zero_factor (det4 (spot a) (spot b) (spot c) u) (distance g s f within (spot d)) (left_out m.k (distance g s f within u) (m.l4 *ℤ distance g s f within (spot d)) z e))
 
         same : (u : Vector) → dot (cofactors (spot a) (spot b) (spot c)) u ≡ dot origin u
@@ -157,7 +157,7 @@ module _ (g : Shape) (s : IsShape g) (f : ℕ) (within : f < length g.faces) (v 
 
       no_fourth : m.l4 ≡ pos 0
       no_fourth =
-          ⊎_elim (λ e. e) (λ e. absurd (not_both (distance g s f within (spot base)) (outside_far g s f within base (some_outside g s f within).1) e))
+          ⊎_elim (λ e. e) (λ e. absurd (positive_some (distance g s f within (spot base)) (outside_far g s f within base (some_outside g s f within).1) e))
           (zero_factor m.l4 (distance g s f within (spot base)) (sym (distance_weight m (spot base) (spot p) mixed) ∙ none m.k (dot first (spot p)) (dot second (spot p)) (face_point_tight g s f within p op)))
         where
           second : Vector
@@ -301,28 +301,22 @@ module _ (g : Shape) (s : IsShape g) (f : ℕ) (within : f < length g.faces) (v 
           pub plane_volume : volume (place_of_point g.points) v a b c p ≡ pos 0
           plane_volume =
               ⊎_elim (λ e. absurd (flat e)) (λ e. e)
-              (zero_factor (wedged a b c) (volume spot v a b c p) (weight4 (plane_weights a b c p) (spot a) (spot b) (spot c) (spot d) (spot p) (plane_mix (spot d)) ∙ none whole_volume))
-            where
-              none : (z : ℤ) → pos 0 *ℤ z ≡ pos 0
-              none z = omega (arith, ints)
+              (zero_factor (wedged a b c) (volume spot v a b c p) (weight4 (plane_weights a b c p) (spot a) (spot b) (spot c) (spot d) (spot p) (plane_mix (spot d)) ∙ zero_product whole_volume))
 
           pub plane_rise : wedge first_of second_of v a b c *ℤ rise (place_of_point g.points) v a b c d p ≡ volume (place_of_point g.points) v a b c d *ℤ lift first_of second_of v a b c p
           plane_rise =
               let t = plane_weights a b c p in
               let e = plane_mix (spot d) in
               by (wedged a b c) whole_volume (volume spot v p b c d) (volume spot v a p c d) (volume spot v a b p d) (volume spot v a b c p) (wedged b c p) (wedged c a p) (wedged a b p) (v p) (v a) (v b) (v c) (v d)
-              (ap (λ z. wedged a b c *ℤ z) (turned _ _ (first_last (spot p) (spot b) (spot c) (spot d))) ∙ out (wedged a b c) (det4 (spot b) (spot c) (spot d) (spot p)) ∙ ap neg_ℤ (weight1 t (spot a) (spot b) (spot c) (spot d) (spot p) e)
-              ∙ sym (out (wedged b c p) (det4 (spot b) (spot c) (spot d) (spot a))) ∙ ap (λ z. wedged b c p *ℤ z) (sym (turned _ _ (first_last (spot a) (spot b) (spot c) (spot d)))))
+              (ap (λ z. wedged a b c *ℤ z) (turned _ _ (first_last (spot p) (spot b) (spot c) (spot d))) ∙ product_neg (wedged a b c) (det4 (spot b) (spot c) (spot d) (spot p)) ∙ ap neg_ℤ (weight1 t (spot a) (spot b) (spot c) (spot d) (spot p) e)
+              ∙ sym (product_neg (wedged b c p) (det4 (spot b) (spot c) (spot d) (spot a))) ∙ ap (λ z. wedged b c p *ℤ z) (sym (turned _ _ (first_last (spot a) (spot b) (spot c) (spot d)))))
               (ap (λ z. wedged a b c *ℤ z) (sym (second_last (spot a) (spot p) (spot c) (spot d))) ∙ weight2 t (spot a) (spot b) (spot c) (spot d) (spot p) e ∙ ap (λ z. wedged c a p *ℤ z) (second_last (spot a) (spot b) (spot c) (spot d)))
-              (ap (λ z. wedged a b c *ℤ z) (turned _ _ (swap_last (spot a) (spot b) (spot p) (spot d))) ∙ out (wedged a b c) (det4 (spot a) (spot b) (spot d) (spot p)) ∙ ap neg_ℤ (weight3 t (spot a) (spot b) (spot c) (spot d) (spot p) e)
-              ∙ sym (out (wedged a b p) (det4 (spot a) (spot b) (spot d) (spot c))) ∙ ap (λ z. wedged a b p *ℤ z) (sym (turned _ _ (swap_last (spot a) (spot b) (spot c) (spot d)))))
+              (ap (λ z. wedged a b c *ℤ z) (turned _ _ (swap_last (spot a) (spot b) (spot p) (spot d))) ∙ product_neg (wedged a b c) (det4 (spot a) (spot b) (spot d) (spot p)) ∙ ap neg_ℤ (weight3 t (spot a) (spot b) (spot c) (spot d) (spot p) e)
+              ∙ sym (product_neg (wedged a b p) (det4 (spot a) (spot b) (spot d) (spot c))) ∙ ap (λ z. wedged a b p *ℤ z) (sym (turned _ _ (swap_last (spot a) (spot b) (spot c) (spot d)))))
               plane_volume
             where
               turned : (y z : ℤ) → y ≡ neg_ℤ z → z ≡ neg_ℤ y
               turned y z e = omega (arith, ints, e)
-
-              out : (k z : ℤ) → k *ℤ neg_ℤ z ≡ neg_ℤ (k *ℤ z)
-              out k z = ring (k ∷ z ∷ []) (times (var 0) (neg (var 1))) (neg (times (var 0) (var 1))) refl
 
               by : (w u v1 v2 v3 v4 w1 w2 w3 h h1 h2 h3 h4 : ℤ) → w *ℤ v1 ≡ w1 *ℤ u → w *ℤ v2 ≡ w2 *ℤ u → w *ℤ v3 ≡ w3 *ℤ u → v4 ≡ pos 0
                   → w *ℤ (u *ℤ h -ℤ (v1 *ℤ h1 +ℤ v2 *ℤ h2 +ℤ v3 *ℤ h3 +ℤ v4 *ℤ h4)) ≡ u *ℤ (w *ℤ h -ℤ (w1 *ℤ h1 +ℤ w2 *ℤ h2 +ℤ w3 *ℤ h3))

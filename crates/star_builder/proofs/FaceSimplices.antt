@@ -22,9 +22,9 @@ use Rattle.star_builder.proofs.FacePlanes.{first_of, second_of, plane_weights, w
 use Rattle.star_builder.proofs.FacetMembers.{lifted_along}
 use Rattle.star_builder.proofs.FacePoints.{facet_below, number_second, IsOutside, some_outside, distance, outside_far, face_point_tight, tight_face_point}
 use Rattle.star_builder.proofs.LowSimplices.{IsLow, IsGeneric}
-use Rattle.star_builder.proofs.Planar.{wedge, lift, IsLower, AreNeverLevel, lower_over, not_both}
+use Rattle.star_builder.proofs.Planar.{wedge, lift, IsLower, AreNeverLevel, lower_over}
 use Rattle.star_builder.proofs.Rises.{gap, gap_multiple, gap_tilt, rise, rise_gap, rise_first, rise_second, rise_third, through, volume}
-use Rattle.ntfe_nums.proofs.Signs.{factor_not_negative, product_not_negative, square_not_negative, square_positive, zero_out, positive_product, product_exchanged, not_negative}
+use Rattle.ntfe_nums.proofs.Signs.{factor_not_negative, product_not_negative, square_not_negative, square_positive, zero_out, positive_product, product_exchanged, not_negative, positive_some}
 use Rattle.star_builder.proofs.Supports.{tight_points, tight_number, tight_on, in_tight, low_support}
 use Rattle.star_builder.proofs.Tilts.{IsTiltedAlong, tilt_along}
 
@@ -85,7 +85,7 @@ module _ (g : Shape) (s : IsShape g) (f : ℕ) (within : f < length g.faces) (v 
     size = volume spot v a b c d
 
     not_flat : wedge X Y v a b c ≢ pos 0
-    not_flat e = not_both (wedge X Y v a b c) left e
+    not_flat e = positive_some (wedge X Y v a b c) left e
 
     pub rise_of_lift : pos 0 <ℤ lift X Y v a b c p → pos 0 <ℤ (volume spot v a b c d *ℤ rise spot v a b c d p)
     rise_of_lift l =
@@ -122,7 +122,7 @@ module _ (g : Shape) (s : IsShape g) (f : ℕ) (within : f < length g.faces) (v 
   low_lower m a b c d low oa ob oc left = record { points = (oa, ob, oc); left = left; above = above }
     where
       flat : wedge X Y v a b c ≢ pos 0
-      flat e = not_both (wedge X Y v a b c) left e
+      flat e = positive_some (wedge X Y v a b c) left e
 
       above : (p : ℕ) → On p → p ≢ a → p ≢ b → p ≢ c → pos 0 <ℤ lift X Y v a b c p
       above p op pa pb pc =
@@ -134,7 +134,7 @@ module _ (g : Shape) (s : IsShape g) (f : ℕ) (within : f < length g.faces) (v 
 
   module _ (generic : IsGeneric g.points v) (a b c : ℕ) (lower : IsBelowFace a b c) where
     flat : wedge X Y v a b c ≢ pos 0
-    flat e = not_both (wedge X Y v a b c) lower.left e
+    flat e = positive_some (wedge X Y v a b c) lower.left e
 
     base : ℕ
     base = (some_outside g s f within).0
@@ -206,7 +206,7 @@ module _ (g : Shape) (s : IsShape g) (f : ℕ) (within : f < length g.faces) (v 
     start_under x h = subst (λ z. pos 0 ≤ℤ z) (start_is x) (factor.2 x h)
 
     base_deep : depth base ≢ pos 0
-    base_deep e = not_both (distance g s f within (spot base)) (outside_far g s f within base base_outside) (sym (depth_is base) ∙ e)
+    base_deep e = positive_some (distance g s f within (spot base)) (outside_far g s f within base base_outside) (sym (depth_is base) ∙ e)
 
     start_touches : (x : ℕ) → On x → rise spot v a b c base x ≡ pos 0 → gap spot v start_size start_form x ≡ pos 0
     start_touches x o e =

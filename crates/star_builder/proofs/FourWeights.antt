@@ -5,6 +5,7 @@ use Rattle.ntfe_nums.specs.Vectors.{Vector, vector_sum, multiple, dot, det4, cof
 use Rattle.ntfe_nums.proofs.Ring.{Expression, ring}
 use Rattle.ntfe_nums.proofs.Ring.Expression.{var, num, plus, times}
 use Rattle.ntfe_nums.proofs.DetLemmas.{Row, row, dotE, det4E, normalE, of4, det4-cofactors, of5}
+use Rattle.ntfe_nums.proofs.Signs.{zero_out}
 
 -- k times a point is l1 a + l2 b + l3 c + l4 d
 pub record Weights : Type 0 where
@@ -58,14 +59,11 @@ orthogonal_third a b c = ring (of4 a b c c) (dotE (normalE (row 0) (row 4) (row 
 
 -- ---- the weights of a mixture
 
-times_zero : (l z : ℤ) → z ≡ pos 0 → l *ℤ z ≡ pos 0
-times_zero l z e = ap (λ x. l *ℤ x) e ∙ omega (arith, ints)
-
 pub weight1 : (m : Weights) (a b c d p : Vector) → IsMixOf m a b c d p → m.k *ℤ det4 b c d p ≡ m.l1 *ℤ det4 b c d a
 weight1 m a b c d p e =
     let u = cofactors b c d in
     ap (λ z. m.k *ℤ z) (det4-cofactors b c d p) ∙ dot_mix u m a b c d p e
-    ∙ only (m.l1 *ℤ dot u a) (m.l2 *ℤ dot u b) (m.l3 *ℤ dot u c) (m.l4 *ℤ dot u d) (times_zero m.l2 (dot u b) (orthogonal_first b c d)) (times_zero m.l3 (dot u c) (orthogonal_second b c d)) (times_zero m.l4 (dot u d) (orthogonal_third b c d))
+    ∙ only (m.l1 *ℤ dot u a) (m.l2 *ℤ dot u b) (m.l3 *ℤ dot u c) (m.l4 *ℤ dot u d) (zero_out m.l2 (dot u b) (orthogonal_first b c d)) (zero_out m.l3 (dot u c) (orthogonal_second b c d)) (zero_out m.l4 (dot u d) (orthogonal_third b c d))
     ∙ ap (λ z. m.l1 *ℤ z) (sym (det4-cofactors b c d a))
   where
     only : (x y z v : ℤ) → y ≡ pos 0 → z ≡ pos 0 → v ≡ pos 0 → x +ℤ (y +ℤ (z +ℤ v)) ≡ x
@@ -75,7 +73,7 @@ pub weight2 : (m : Weights) (a b c d p : Vector) → IsMixOf m a b c d p → m.k
 weight2 m a b c d p e =
     let u = cofactors a c d in
     ap (λ z. m.k *ℤ z) (det4-cofactors a c d p) ∙ dot_mix u m a b c d p e
-    ∙ only (m.l1 *ℤ dot u a) (m.l2 *ℤ dot u b) (m.l3 *ℤ dot u c) (m.l4 *ℤ dot u d) (times_zero m.l1 (dot u a) (orthogonal_first a c d)) (times_zero m.l3 (dot u c) (orthogonal_second a c d)) (times_zero m.l4 (dot u d) (orthogonal_third a c d))
+    ∙ only (m.l1 *ℤ dot u a) (m.l2 *ℤ dot u b) (m.l3 *ℤ dot u c) (m.l4 *ℤ dot u d) (zero_out m.l1 (dot u a) (orthogonal_first a c d)) (zero_out m.l3 (dot u c) (orthogonal_second a c d)) (zero_out m.l4 (dot u d) (orthogonal_third a c d))
     ∙ ap (λ z. m.l2 *ℤ z) (sym (det4-cofactors a c d b))
   where
     only : (x y z v : ℤ) → x ≡ pos 0 → z ≡ pos 0 → v ≡ pos 0 → x +ℤ (y +ℤ (z +ℤ v)) ≡ y
@@ -85,7 +83,7 @@ pub weight3 : (m : Weights) (a b c d p : Vector) → IsMixOf m a b c d p → m.k
 weight3 m a b c d p e =
     let u = cofactors a b d in
     ap (λ z. m.k *ℤ z) (det4-cofactors a b d p) ∙ dot_mix u m a b c d p e
-    ∙ only (m.l1 *ℤ dot u a) (m.l2 *ℤ dot u b) (m.l3 *ℤ dot u c) (m.l4 *ℤ dot u d) (times_zero m.l1 (dot u a) (orthogonal_first a b d)) (times_zero m.l2 (dot u b) (orthogonal_second a b d)) (times_zero m.l4 (dot u d) (orthogonal_third a b d))
+    ∙ only (m.l1 *ℤ dot u a) (m.l2 *ℤ dot u b) (m.l3 *ℤ dot u c) (m.l4 *ℤ dot u d) (zero_out m.l1 (dot u a) (orthogonal_first a b d)) (zero_out m.l2 (dot u b) (orthogonal_second a b d)) (zero_out m.l4 (dot u d) (orthogonal_third a b d))
     ∙ ap (λ z. m.l3 *ℤ z) (sym (det4-cofactors a b d c))
   where
     only : (x y z v : ℤ) → x ≡ pos 0 → y ≡ pos 0 → v ≡ pos 0 → x +ℤ (y +ℤ (z +ℤ v)) ≡ z
@@ -95,7 +93,7 @@ pub weight4 : (m : Weights) (a b c d p : Vector) → IsMixOf m a b c d p → m.k
 weight4 m a b c d p e =
     let u = cofactors a b c in
     ap (λ z. m.k *ℤ z) (det4-cofactors a b c p) ∙ dot_mix u m a b c d p e
-    ∙ only (m.l1 *ℤ dot u a) (m.l2 *ℤ dot u b) (m.l3 *ℤ dot u c) (m.l4 *ℤ dot u d) (times_zero m.l1 (dot u a) (orthogonal_first a b c)) (times_zero m.l2 (dot u b) (orthogonal_second a b c)) (times_zero m.l3 (dot u c) (orthogonal_third a b c))
+    ∙ only (m.l1 *ℤ dot u a) (m.l2 *ℤ dot u b) (m.l3 *ℤ dot u c) (m.l4 *ℤ dot u d) (zero_out m.l1 (dot u a) (orthogonal_first a b c)) (zero_out m.l2 (dot u b) (orthogonal_second a b c)) (zero_out m.l3 (dot u c) (orthogonal_third a b c))
     ∙ ap (λ z. m.l4 *ℤ z) (sym (det4-cofactors a b c d))
   where
     only : (x y z v : ℤ) → x ≡ pos 0 → y ≡ pos 0 → z ≡ pos 0 → x +ℤ (y +ℤ (z +ℤ v)) ≡ v

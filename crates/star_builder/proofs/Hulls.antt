@@ -19,7 +19,7 @@ use Rattle.star_builder.proofs.Rises.{gap, rise, rise_gap, rise_first, rise_seco
 use Rattle.star_builder.proofs.Spanning.{spot, weight_of, facet_four, spanning_size, spanning_form}
 use Rattle.star_builder.proofs.Tilts.{IsUnder, IsTiltedAlong, tilt_along, IsThrice, three_tilts}
 use Rattle.star_builder.proofs.Searches.{some_not_zero}
-use Rattle.ntfe_nums.proofs.Signs.{product_not_negative, product_not_positive, sign_of, zero_or, zero_out, positive_product}
+use Rattle.ntfe_nums.proofs.Signs.{product_not_negative, product_not_positive, sign_of, zero_or, zero_out, positive_product, not_negative, zero_between}
 
 module _ (p : VertexLists) (r : IsReflexive p) (m : Vector) (within : Contains p.dual m) (x : Vector) (k : ℤ) (positive : pos 0 <ℤ k) (level : dot m x ≡ pos 0 -ℤ k)
     (inside : (f : Vector) → Contains p.dual f → pos 0 ≤ℤ (k +ℤ dot f x)) where
@@ -118,9 +118,6 @@ module _ (p : VertexLists) (r : IsReflexive p) (m : Vector) (within : Contains p
             side_x (side_gap 0 ∙ (λ t. spans_size (det a b c e) (through places weights a b c e) (λ i h. sym (side_gap i) ∙ none i h) t *ℤ k -ℤ spans_form (det a b c e) (through places weights a b c e) (λ i h. sym (side_gap i) ∙ none i h) t)
             ∙ ring (k ∷ []) (minus (times (num (pos 0)) (var 0)) (num (pos 0))) (num (pos 0)) refl)
 
-    weak : (z : ℤ) → pos 0 <ℤ z → pos 0 ≤ℤ z
-    weak z l = omega (arith, ints, l)
-
     -- a number whose multiple by a negative number has a sign has the other
     other_sign_up : (v y z : ℤ) → v <ℤ pos 0 → v *ℤ y ≡ z → pos 0 ≤ℤ z → y ≤ℤ pos 0
     other_sign_up v y z l q o = ⊎_elim (λ h. absurd (no h)) (λ h. h) (sign_of y)
@@ -142,7 +139,7 @@ module _ (p : VertexLists) (r : IsReflexive p) (m : Vector) (within : Contains p
     flank = record { numbers = inside_list; z = not_level.0; within = not_level.1; apart = not_level.2; one_side = ⊎_elim (λ l. inl (below l)) (λ l. inr (above l)) (sign_of (side 0)) }
       where
         below : pos 0 <ℤ rise (spot x p.vertices) (weight_of k) a b c e 0 → (i : ℕ) → Contains (numbers_of p.vertices) i → rise (spot x p.vertices) (weight_of k) a b c e i ≤ℤ pos 0
-        below l i h = other_sign_up (value s n 0) (side i) (side 0 *ℤ value s n i) negative (sides_alike i) (product_not_negative (side 0) (value s n i) (weak (side 0) l) (under i h))
+        below l i h = other_sign_up (value s n 0) (side i) (side 0 *ℤ value s n i) negative (sides_alike i) (product_not_negative (side 0) (value s n i) (not_negative (side 0) l) (under i h))
 
         above : rise (spot x p.vertices) (weight_of k) a b c e 0 ≤ℤ pos 0 → (i : ℕ) → Contains (numbers_of p.vertices) i → pos 0 ≤ℤ rise (spot x p.vertices) (weight_of k) a b c e i
         above l i h = other_sign_down (value s n 0) (side i) (side 0 *ℤ value s n i) negative (sides_alike i) (turned (side 0) (value s n i) (product_not_positive (value s n i) (side 0) (under i h) l))
@@ -180,14 +177,11 @@ module _ (p : VertexLists) (r : IsReflexive p) (m : Vector) (within : Contains p
 
       none : (i : ℕ) → Contains numbers i → value (pos 1) turned i ≡ pos 0
       none i q =
-          both (value (pos 1) turned i) (over i q)
+          zero_between (value (pos 1) turned i) (over i q)
           (other_sign_up (value s n 0) (value (pos 1) turned i) (value (pos 1) turned 0 *ℤ value s n i) negative
           (gaps_alike places weights s n (pos 1) turned a b c 0 e i independent apart touches
           (tight_value a inside_list.0 ta, tight_value b inside_list.1 tb, tight_value c inside_list.2 tc, tight_value e inside_list.3 te))
           (product_not_negative (value (pos 1) turned 0) (value s n i) (subst (λ z. pos 0 ≤ℤ z) (sym (turned_value 0)) (inside f h)) (under i q)))
-        where
-          both : (z : ℤ) → pos 0 ≤ℤ z → z ≤ℤ pos 0 → z ≡ pos 0
-          both z l o = omega (arith, ints, l, o)
 
       tight_absurd : ⊥
       tight_absurd = no (spans_size (pos 1) turned none)

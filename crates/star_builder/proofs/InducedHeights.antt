@@ -29,17 +29,15 @@ use Rattle.star_builder.proofs.Weights.{weight, weighed, leader_decides, weighed
 use Rattle.star_builder.proofs.FourPoints.{one_at}
 use Rattle.star_builder.proofs.MemberPlanes.{form, outside_member, form_leads}
 use Rattle.star_builder.proofs.UnitShares.{factor_bound, unit_factors_small, mixed_corners}
+use Rattle.ntfe_nums.proofs.Signs.{two_orders}
 
 -- ---- the corners of a triple stand together
 
 pub corners_together : (h : Patch) (star : List (List ℕ)) (x : Triangulation) → Leaves h star x → (t : Triangle) → Contains x.triangles t → IsUnit h t.a t.b t.c → AreTogether star t.a t.b t.c
-corners_together h star x leaves t c u = by (apart t.a t.b three.0) (apart t.b t.c three.1) (apart t.c t.a three.2)
+corners_together h star x leaves t c u = by (two_orders t.a t.b three.0) (two_orders t.b t.c three.1) (two_orders t.c t.a three.2)
   where
     three : AreThree t
     three = unit_three h t u
-
-    apart : (i j : ℕ) → i ≢ j → (i < j) ⊎ (j < i)
-    apart i j n = grind arith
 
     -- the corners by rising numbers
     rising : (i j k : ℕ) → i < j → j < k → IsOf h i → IsOf h j → IsOf h k → IsRotationOf t i j k ⊎ IsRotationOf t i k j → AreTogether star i j k

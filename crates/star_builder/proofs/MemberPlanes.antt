@@ -14,22 +14,17 @@ use Rattle.ntfe_model.specs.Stars.{IsFirstPositive, IsLexAbove, push_coefficient
 use Rattle.ntfe_model.specs.declared.point.Point.{Point}
 use Rattle.ntfe_model.proofs.PlaneNumbers.{zero_factor, positive_factor}
 use Rattle.star_builder.proofs.FourPoints.{one_at, one_here, one_elsewhere, combined, vectors_combined, in_four, combined_one, spread, combined_spread, factors_fixed}
+use Rattle.ntfe_nums.proofs.Signs.{positive_same, positive_some}
 
 -- ---- multiples of a list
 
 -- a positive divisor leaves the first number positive
 pub first_divided : (size : ℤ) → pos 0 <ℤ size → (f g : ℕ → ℤ) → ((m : ℕ) → f m ≡ g m *ℤ size) → (ks : List ℕ) (y z : ℤ) → y ≡ z *ℤ size
     → IsFirstPositive (y ∷ map f ks) → IsFirstPositive (z ∷ map g ks)
-first_divided size above f g same ks y z e (inl l) = inl (positive_factor z size above (less y (z *ℤ size) e l))
-  where
-    less : (u v : ℤ) → u ≡ v → pos 0 <ℤ u → pos 0 <ℤ v
-    less u v q m = omega (arith, ints, q, m)
+first_divided size above f g same ks y z e (inl l) = inl (positive_factor z size above (positive_same y (z *ℤ size) e l))
 first_divided size above f g same [] y z e (inr (q, none)) = absurd none
 first_divided size above f g same (k ∷ ks) y z e (inr (q, rest)) =
-    inr (⊎_elim (λ r. r) (λ r. absurd (no size above r)) (zero_factor z size (sym e ∙ q)), first_divided size above f g same ks (f k) (g k) (same k) rest)
-  where
-    no : (u : ℤ) → pos 0 <ℤ u → u ≡ pos 0 → ⊥
-    no u l r = absurd (omega (arith, ints, l, r))
+    inr (⊎_elim (λ r. r) (λ r. absurd (positive_some size above r)) (zero_factor z size (sym e ∙ q)), first_divided size above f g same ks (f k) (g k) (same k) rest)
 
 -- the size of a number that is not 0
 pub size_positive : (d size : ℤ) → d ≢ pos 0 → size ≡ pos (unsigned_abs d) → pos 0 <ℤ size

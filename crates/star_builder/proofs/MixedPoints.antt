@@ -22,8 +22,7 @@ use Rattle.star_builder.proofs.FourWeights.{IsMixOf, dot_mix}
 use Rattle.star_builder.proofs.FacetPoints.{int_eq_to}
 use Rattle.star_builder.proofs.VertexPoints.{two_members}
 use Rattle.star_builder.proofs.FacePoints.{face_is, face_point_tight, tight_face_point, number_first, number_second}
-use Rattle.star_builder.proofs.Planar.{not_both}
-use Rattle.ntfe_nums.proofs.Signs.{negative_or, product_not_negative}
+use Rattle.ntfe_nums.proofs.Signs.{negative_or, product_not_negative, positive_some}
 use Rattle.star_builder.proofs.UsedPoints.{three_weights}
 
 -- ---- numbers
@@ -131,7 +130,7 @@ module _ (g : Shape) (s : IsShape g) (f : ℕ) (within : f < length g.faces) (a 
 
   tight_mix : (m : Vector) → IsTight m (spot a) → IsTight m (spot b) → IsTight m (spot c) → IsTight m u
   tight_mix m ta tb tc =
-      cancel_other (dot m u) (negsuc 0) k (λ e. not_both k positive e)
+      cancel_other (dot m u) (negsuc 0) k (λ e. positive_some k positive e)
       (ring (k ∷ dot m u ∷ []) (times (var 1) (var 0)) (times (var 0) (var 1)) refl
       ∙ dot_mix m (three_weights k l1 l2 l3) (spot a) (spot b) (spot c) d u mix
       ∙ (λ i. l1 *ℤ ta i +ℤ (l2 *ℤ tb i +ℤ (l3 *ℤ tc i +ℤ pos 0 *ℤ dot m d)))

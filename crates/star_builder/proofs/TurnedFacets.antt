@@ -13,7 +13,7 @@ use Rattle.ntfe_nums.proofs.Ring.{ring}
 use Rattle.ntfe_nums.proofs.Ring.Expression.{var, num, plus, minus, times, neg}
 use Rattle.ntfe_nums.proofs.DetLemmas.{row, dotE}
 use Rattle.ntfe_nums.proofs.Exchanges.{swap_first, swap_middle, swap_last}
-use Rattle.ntfe_nums.proofs.Signs.{above_zero, factor_not_negative, not_negative, positive_product, product_not_negative, product_not_positive, sign_of, square_positive, zero_between, zero_or, zero_out}
+use Rattle.ntfe_nums.proofs.Signs.{above_zero, factor_not_negative, not_negative, positive_product, product_not_negative, product_not_positive, sign_of, square_positive, zero_between, zero_or, zero_out, positive_some}
 use Rattle.ntfe_model.specs.Lists.{IsListing}
 use Rattle.ntfe_model.specs.Pairs.{VertexLists}
 use Rattle.ntfe_model.specs.Reflexive.{IsTight, IsReflexive}
@@ -202,10 +202,7 @@ module _ (p : VertexLists) (r : IsReflexive p) (m : Vector) (within : Contains p
           (e, t, zero_between (value t.size t.form 0) (over_point t.size t.form t.under) (subst (λ z. value t.size t.form 0 ≤ℤ z) (zero_out t.factor (value s n 0) zero_at) (t.falls 0 (not_negative (det i j k e *ℤ det i j k 0) l))))
         where
           some : (y z : ℤ) → pos 0 <ℤ (y *ℤ z) → y ≢ pos 0
-          some y z l e = by (y *ℤ z) l (ring (y ∷ z ∷ []) (times (var 0) (var 1)) (times (var 1) (var 0)) refl ∙ zero_out z y e)
-            where
-              by : (w : ℤ) → pos 0 <ℤ w → w ≡ pos 0 → ⊥
-              by w k q = absurd (omega (arith, ints, k, q))
+          some y z l e = positive_some (y *ℤ z) l (ring (y ∷ z ∷ []) (times (var 0) (var 1)) (times (var 1) (var 0)) refl ∙ zero_out z y e)
 
   -- ---- the facet turns about three vertices
 
@@ -306,7 +303,7 @@ module _ (p : VertexLists) (r : IsReflexive p) (m : Vector) (within : Contains p
       other = f;
       among = h;
       differs = λ e. turned_along.apart (depth_none m d (ap (λ v. dot v (places d)) (sym e) ∙ td));
-      through_point = depth_tight f 0 (⊎_elim (λ e. absurd (no (u a) above e)) (λ e. e)
+      through_point = depth_tight f 0 (⊎_elim (λ e. absurd (positive_some (u a) above e)) (λ e. e)
           (zero_factor (u a) (depth f 0) (alike (pos 1) (multiple (negsuc 0) f) (depth_none f t.y1 t1, depth_none f t.y2 t2, depth_none f t.y3 t3, depth_none f d td) 0 ∙ zero_out (depth f a) (u 0) (kept_zero 0 level zero_at))));
       a = places t.y1;
       b = places t.y2;
@@ -316,9 +313,6 @@ module _ (p : VertexLists) (r : IsReflexive p) (m : Vector) (within : Contains p
       second = (t1, t2, t3);
       span = plane_spanned (places t.y1) (places t.y2) (places t.y3) (places a) independent;
     }
-      where
-        no : (z : ℤ) → pos 0 <ℤ z → z ≡ pos 0 → ⊥
-        no z l e = absurd (omega (arith, ints, l, e))
 
     turned_ridge : IsRidgeAt p m x
     turned_ridge = found (facet_through p r x (pos 1) t.y1 t.y2 t.y3 d flank)

@@ -2,8 +2,7 @@
 --     area_size      the size of an area of three small vectors
 --     unit_factors_small      the factors of a reached point of the face
 --     mixed_corners      a reached vector as a mixture
-use Rattle.std.proofs.Common.{◌≡◌, ◌≢◌, ℕ, ◌-◌, ◌≤◌, refl, ap, ◌∙◌, arith, ℤ, pos, ◌+ℤ◌, ◌-ℤ◌, ◌*ℤ◌, ◌<ℤ◌, [], ◌∷◌, unsigned_abs}
-use Rattle.std.proofs.lemmas.Int.{ints}
+use Rattle.std.proofs.Common.{◌≡◌, ℕ, ◌-◌, ◌≤◌, refl, ap, ◌∙◌, arith, ℤ, pos, ◌+ℤ◌, ◌-ℤ◌, ◌*ℤ◌, [], ◌∷◌, unsigned_abs}
 use Rattle.ntfe_nums.specs.Vectors.{Vector, numbers, vector_sum, multiple, coordinate, area}
 use Rattle.ntfe_nums.proofs.Ring.{ring}
 use Rattle.ntfe_nums.proofs.Ring.Expression.{var, num, plus, minus, times}
@@ -15,6 +14,7 @@ use Rattle.ntfe_model.proofs.SmallVectors.{small_numbers}
 use Rattle.ntfe_model.proofs.FoldSizes.{factor_size}
 use Rattle.ntfe_model.proofs.PlaneNumbers.{area_first, area_second, area_third}
 use Rattle.ntfe_model.proofs.UnitTriples.{area_of, unit_area}
+use Rattle.ntfe_nums.proofs.Signs.{positive_some}
 
 -- twice the square of 2,046
 abbrev pub factor_bound : ℕ
@@ -38,16 +38,13 @@ unit_factors_small h a b c p s t u o small lies = (
   by t a b u.points.0 u.points.1 (area_third (axes h) (place h a) (place h b) (place h c) s t),
 )
   where
-    not_flat : (z : ℤ) → pos 0 <ℤ z → z ≢ pos 0
-    not_flat z l e = absurd (omega (arith, ints, l, e))
-
     below : (i j k : ℕ) → i ≤ j → j ≤ k → i ≤ k
     below i j k l m = omega (arith, l, m)
 
     by : (factor : ℤ) (i j : ℕ) → IsOf h i → IsOf h j → area (axes h) (place h i) (place h j) (reached (place h a) (place h b) (place h c) s t) ≡ factor *ℤ area_of h a b c
         → unsigned_abs factor ≤ factor_bound
     by factor i j oi oj e =
-        below _ _ _ (factor_size factor (area_of h a b c) (area_of h i j p) (not_flat (area_of h a b c) (unit_area h a b c u)) (ap (area (axes h) (place h i) (place h j)) lies ∙ e))
+        below _ _ _ (factor_size factor (area_of h a b c) (area_of h i j p) (positive_some (area_of h a b c) (unit_area h a b c u)) (ap (area (axes h) (place h i) (place h j)) lies ∙ e))
         (area_size (axes h) (place h i) (place h j) (place h p) (small i oi) (small j oj) (small p o))
 
 mixed_number : (a b c s t : ℤ) → a +ℤ (s *ℤ (b -ℤ a) +ℤ t *ℤ (c -ℤ a)) ≡ (pos 1 -ℤ s -ℤ t) *ℤ a +ℤ s *ℤ b +ℤ t *ℤ c
