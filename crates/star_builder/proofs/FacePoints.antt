@@ -17,9 +17,9 @@ use Rattle.ntfe_model.specs.Shapes.{Shape, IsShape, face_at, no_face}
 use Rattle.ntfe_model.specs.Charts.{patch_at, IsOf}
 use Rattle.ntfe_model.proofs.Listings.{Contains-filter, listing_range}
 use Rattle.ntfe_model.proofs.GeometryPoints.{numbers_of}
-use Rattle.ntfe_model.proofs.Triples.{Decided}
+use Rattle.ntfe_model.proofs.Triples.{Decided, decide_integer}
 use Rattle.star_builder.proofs.Normals.{normal_fixed}
-use Rattle.star_builder.proofs.FacetPoints.{int_eq_from, int_eq_to, decide_equal, entry_in, place_in, entries_apart}
+use Rattle.star_builder.proofs.FacetPoints.{int_eq_from, int_eq_to, entry_in, place_in, entries_apart}
 use Rattle.star_builder.proofs.VertexPoints.{vertex_number}
 
 -- ---- lists
@@ -93,7 +93,7 @@ module _ (g : Shape) (s : IsShape g) (f : ℕ) (within : f < length g.faces) whe
 
   pub some_outside : (p : ℕ) × IsOutside p
   some_outside =
-      by (decide_equal (dot second (at vs r.i)) (negsuc 0)) (decide_equal (dot second (at vs r.j)) (negsuc 0)) (decide_equal (dot second (at vs r.k)) (negsuc 0)) (decide_equal (dot second (at vs r.l)) (negsuc 0))
+      by (decide_integer (dot second (at vs r.i)) (negsuc 0)) (decide_integer (dot second (at vs r.j)) (negsuc 0)) (decide_integer (dot second (at vs r.k)) (negsuc 0)) (decide_integer (dot second (at vs r.l)) (negsuc 0))
     where
       vs : List Vector
       vs = g.pair.vertices

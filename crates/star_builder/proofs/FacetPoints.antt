@@ -1,5 +1,5 @@
 -- The points of a facet: vertices are points, forms that agree on four independent vectors are equal, and some vertex of a facet lies outside another.
-use Rattle.std.proofs.Common.{◌≡◌, ◌≢◌, ℕ, ◌-◌, ◌<◌, inl, inr, Bool, true, false, cond, refl, sym, ◌∙◌, arith, ℤ, pos, negsuc, ◌-ℤ◌, ◌*ℤ◌, neg_ℤ, List, [], ◌∷◌, length}
+use Rattle.std.proofs.Common.{◌≡◌, ◌≢◌, ℕ, ◌-◌, ◌<◌, Bool, true, false, cond, refl, sym, ◌∙◌, arith, ℤ, pos, negsuc, ◌-ℤ◌, ◌*ℤ◌, neg_ℤ, List, [], ◌∷◌, length}
 use Rattle.std.specs.Prelude.{Contains}
 use Rattle.std.specs.Ordering.{int_eq}
 use Rattle.std.proofs.lemmas.Int.{ints}
@@ -12,7 +12,7 @@ use Rattle.ntfe_model.specs.Lists.{IsNumberOf}
 use Rattle.ntfe_model.specs.Pairs.{entry}
 use Rattle.ntfe_model.specs.Charts.{Patch, axes, spans}
 use Rattle.ntfe_model.specs.Reflexive.{IsTight, HasNoRepeat, at}
-use Rattle.ntfe_model.proofs.Triples.{Decided}
+use Rattle.ntfe_model.proofs.Triples.{Decided, decide_integer}
 
 -- ---- whole numbers
 
@@ -23,14 +23,7 @@ pub int_eq_to : (x y : ℤ) → x ≡ y → int_eq x y ≡ true
 int_eq_to x y e = grind (arith, ints)
 
 pub decide_equal : (x y : ℤ) → Decided (x ≡ y)
-decide_equal x y = by (int_eq x y) refl
-  where
-    no : int_eq x y ≡ false → x ≡ y → ⊥
-    no f e = let g : true ≡ false = sym (int_eq_to x y e) ∙ f in cc
-
-    by : (b : Bool) → int_eq x y ≡ b → Decided (x ≡ y)
-    by true e = inl (int_eq_from x y e)
-    by false e = inr (no e)
+decide_equal = decide_integer
 
 -- ---- forms
 

@@ -13,12 +13,11 @@ use Rattle.ntfe_model.specs.declared.triangulation.Triangulation.{Triangulation}
 use Rattle.ntfe_model.proofs.FoldPlanes.{at_corner}
 use Rattle.ntfe_model.proofs.Listings.{Contains-here, Contains-there, Contains-cases, Contains-none, Contains-flat_map}
 use Rattle.ntfe_model.proofs.PlaneNumbers.{sign_positive}
-use Rattle.ntfe_model.proofs.Triples.{Decided, decide_both, decide_all3, same_self, corner_same}
+use Rattle.ntfe_model.proofs.Triples.{Decided, decide_both, decide_all3, same_self, corner_same, decide_integer}
 use Rattle.ntfe_model.proofs.UnitTriples.{area_of}
 use Rattle.star_builder.proofs.CentreTriples.{area_odd}
 use Rattle.star_builder.proofs.FaceTriples.{together_area}
 use Rattle.star_builder.proofs.Decisions.{decide_less, two_signs}
-use Rattle.star_builder.proofs.FacetPoints.{decide_equal}
 use Rattle.star_builder.proofs.FaceSteps.{decide_listed}
 use Rattle.star_builder.proofs.FineRestrictions.{restriction_fine}
 use Rattle.star_builder.proofs.Searches.{some_or_all}
@@ -61,7 +60,7 @@ module _ (h : Patch) (star : List (List ℕ)) where
   decide_left : (t : Triangle) → Decided (IsLeft h star t)
   decide_left t =
       by (decide_all3 (decide_listed (spot_numbers h) t.a) (decide_listed (spot_numbers h) t.b) (decide_listed (spot_numbers h) t.c)) (decide_together t.a t.b t.c)
-      (decide_equal (turn h t.a t.b t.c) (pos 1)) (decide_both (decide_less t.a t.b) (decide_less t.a t.c))
+      (decide_integer (turn h t.a t.b t.c) (pos 1)) (decide_both (decide_less t.a t.b) (decide_less t.a t.c))
     where
       by : Decided (IsOf h t.a × IsOf h t.b × IsOf h t.c) → Decided (AreTogether star t.a t.b t.c) → Decided (turn h t.a t.b t.c ≡ pos 1) → Decided ((t.a < t.b) × (t.a < t.c)) → Decided (IsLeft h star t)
       by (inl o) (inl m) (inl e) (inl l) = inl (record { points = o; together = m; turned = e; least = l })

@@ -6,8 +6,7 @@ use Rattle.ntfe_nums.proofs.Ring.{Expression, ring}
 use Rattle.ntfe_nums.proofs.Ring.Expression.{var, plus, minus, times}
 use Rattle.ntfe_nums.proofs.DetLemmas.{row, det4E, of4}
 use Rattle.ntfe_model.specs.Points.{SpanPlane}
-use Rattle.ntfe_model.proofs.Triples.{Decided}
-use Rattle.star_builder.proofs.FacetPoints.{decide_equal}
+use Rattle.ntfe_model.proofs.Triples.{Decided, decide_integer}
 
 minors : (a b c p : Vector) → det4 a b c p
     ≡ area (1, 2) a b c *ℤ (a.x3 *ℤ p.x4 -ℤ a.x4 *ℤ p.x3) -ℤ area (1, 3) a b c *ℤ (a.x2 *ℤ p.x4 -ℤ a.x4 *ℤ p.x2) +ℤ area (1, 4) a b c *ℤ (a.x2 *ℤ p.x3 -ℤ a.x3 *ℤ p.x2)
@@ -25,8 +24,8 @@ minors a b c p =
 
 pub plane_spanned : (a b c p : Vector) → det4 a b c p ≢ pos 0 → SpanPlane a b c
 plane_spanned a b c p n =
-    by (decide_equal (area (1, 2) a b c) (pos 0)) (decide_equal (area (1, 3) a b c) (pos 0)) (decide_equal (area (1, 4) a b c) (pos 0)) (decide_equal (area (2, 3) a b c) (pos 0))
-    (decide_equal (area (2, 4) a b c) (pos 0)) (decide_equal (area (3, 4) a b c) (pos 0))
+    by (decide_integer (area (1, 2) a b c) (pos 0)) (decide_integer (area (1, 3) a b c) (pos 0)) (decide_integer (area (1, 4) a b c) (pos 0)) (decide_integer (area (2, 3) a b c) (pos 0))
+    (decide_integer (area (2, 4) a b c) (pos 0)) (decide_integer (area (3, 4) a b c) (pos 0))
   where
     zeros : (q1 q2 q3 q4 q5 q6 : ℤ) → pos 0 *ℤ q1 -ℤ pos 0 *ℤ q2 +ℤ pos 0 *ℤ q3 +ℤ pos 0 *ℤ q4 -ℤ pos 0 *ℤ q5 +ℤ pos 0 *ℤ q6 ≡ pos 0
     zeros q1 q2 q3 q4 q5 q6 = omega (arith, ints)

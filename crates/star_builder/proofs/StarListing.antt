@@ -17,9 +17,8 @@ use Rattle.ntfe_model.specs.declared.point.Point.{Point}
 use Rattle.ntfe_model.specs.declared.nogood.Push.{Push}
 use Rattle.ntfe_model.specs.declared.nogood.Push.TheVariants.{Up, Down}
 use Rattle.ntfe_model.proofs.Listings.{Contains-here, listing_filter, listing_groups, listing_range}
-use Rattle.ntfe_model.proofs.Triples.{Decided, decide_number, decide_both, decide_all3, decide_not}
+use Rattle.ntfe_model.proofs.Triples.{Decided, decide_number, decide_both, decide_all3, decide_not, decide_integer}
 use Rattle.star_builder.proofs.Decisions.{decide_less, decide_at_most, decide_all_below, decide_some_below, decide_given, decide_both4}
-use Rattle.star_builder.proofs.FacetPoints.{decide_equal}
 use Rattle.star_builder.proofs.FourPoints.{in_four}
 use Rattle.star_builder.proofs.LowSimplices.{has_first, has_second, has_third, has_fourth}
 use Rattle.star_builder.proofs.WholeHeights.{decide_lex}
@@ -31,7 +30,7 @@ module _ (ms : List Vector) (xs : List Point) (w : List ℤ) (order : List ℕ) 
   spot = place_of_point xs
 
   decide_tight : (m : Vector) (k : ℕ) → Decided (IsTight m (spot k))
-  decide_tight m k = decide_equal (dot m (spot k)) (negsuc 0)
+  decide_tight m k = decide_integer (dot m (spot k)) (negsuc 0)
 
   decide_number_of : {X : Type 0} (ys : List X) (k : ℕ) → Decided (IsNumberOf ys k)
   decide_number_of ys k = decide_both (decide_at_most 1 k) (decide_at_most k (length ys))
@@ -62,7 +61,7 @@ module _ (ms : List Vector) (xs : List Point) (w : List ℤ) (order : List ℕ) 
 
     decide_members : Decided AreMembers
     decide_members =
-        by (decide_both (decide_number_of xs a) (decide_number_of xs d)) (decide_all3 (decide_less a b) (decide_less b c) (decide_less c d)) (decide_equal (det4 (spot a) (spot b) (spot c) (spot d)) (pos 0))
+        by (decide_both (decide_number_of xs a) (decide_number_of xs d)) (decide_all3 (decide_less a b) (decide_less b c) (decide_less c d)) (decide_integer (det4 (spot a) (spot b) (spot c) (spot d)) (pos 0))
       where
         by : Decided (IsNumberOf xs a × IsNumberOf xs d) → Decided ((a < b) × (b < c) × (c < d)) → Decided (det4 (spot a) (spot b) (spot c) (spot d) ≡ pos 0) → Decided AreMembers
         by (inr n) q r = inr (λ m. n m.0)
