@@ -3,7 +3,7 @@
 --     vertices; the first facet then turns about these until it meets another vertex.
 --     IsRidgeAt      such a facet, and the vertices
 --     ridge_at      it exists
-use Rattle.std.proofs.Common.{◌≡◌, ◌≢◌, ℕ, zero, suc, ◌+◌, ◌<◌, ◌≤◌, inl, inr, ⊎_elim, refl, sym, ap, ◌∙◌, subst, arith, ℤ, pos, negsuc, ◌+ℤ◌, ◌-ℤ◌, ◌*ℤ◌, ◌<ℤ◌, ◌≤ℤ◌, neg_ℤ, List, [], ◌∷◌, length}
+use Rattle.std.proofs.Common.{◌≡◌, ◌≢◌, ℕ, zero, suc, ◌+◌, ◌<◌, ◌≤◌, ⊎_elim, refl, sym, ap, ◌∙◌, subst, arith, ℤ, pos, negsuc, ◌+ℤ◌, ◌-ℤ◌, ◌*ℤ◌, ◌<ℤ◌, ◌≤ℤ◌, neg_ℤ, List, [], ◌∷◌, length}
 use Rattle.std.specs.Prelude.{Contains, filter}
 use Rattle.std.proofs.lemmas.Int.{ints}
 use Rattle.std.proofs.lemmas.Bool.Decides.{Decides-int_eq}
@@ -11,9 +11,8 @@ use Rattle.std.proofs.lemmas.List.Elements.{All-contains, Contains-get_or}
 use Rattle.ntfe_nums.specs.Vectors.{Vector, origin, dot, difference, multiple, cofactors}
 use Rattle.ntfe_nums.proofs.Ring.{ring}
 use Rattle.ntfe_nums.proofs.Ring.Expression.{var, num, plus, minus, times, neg}
-use Rattle.ntfe_nums.proofs.DetLemmas.{row, dotE}
 use Rattle.ntfe_nums.proofs.Exchanges.{swap_first, swap_middle, swap_last}
-use Rattle.ntfe_nums.proofs.Signs.{above_zero, factor_not_negative, not_negative, positive_product, product_not_negative, product_not_positive, sign_of, square_positive, zero_between, zero_or, zero_out, positive_some}
+use Rattle.ntfe_nums.proofs.Signs.{above_zero, not_negative, positive_product, sign_of, square_positive, zero_between, zero_or, zero_out, positive_some}
 use Rattle.ntfe_model.specs.Lists.{IsListing}
 use Rattle.ntfe_model.specs.Pairs.{VertexLists}
 use Rattle.ntfe_model.specs.Reflexive.{IsTight, IsReflexive}
@@ -21,15 +20,15 @@ use Rattle.ntfe_model.specs.Points.{SpanPlane, is_tight}
 use Rattle.ntfe_model.proofs.Listings.{listing_filter, listing_range}
 use Rattle.ntfe_model.proofs.PlaneNumbers.{zero_factor}
 use Rattle.star_builder.proofs.FacetMembers.{lifted_along}
-use Rattle.star_builder.proofs.Flanks.{numbers_of, has_number, number_within, IsFlank, facet_through}
+use Rattle.star_builder.proofs.Flanks.{numbers_of, has_number, number_within}
 use Rattle.star_builder.proofs.Hulls.{hull_over}
 use Rattle.star_builder.proofs.LowSimplices.{turned_not_zero}
 use Rattle.star_builder.proofs.Normals.{normal_fixed}
-use Rattle.star_builder.proofs.Proportions.{gaps_alike}
-use Rattle.star_builder.proofs.Rises.{gap, gap_multiple, gap_rise, gap_tilt, rise, rise_exchange, rise_first, rise_second, rise_third, rise_fourth, rise_gap, through, volume}
+use Rattle.star_builder.proofs.Rises.{gap, gap_multiple, gap_rise, gap_tilt, rise, volume}
 use Rattle.star_builder.proofs.Searches.{some_not_zero, some_or_all}
 use Rattle.star_builder.proofs.SpannedPlanes.{plane_spanned}
 use Rattle.star_builder.proofs.Spanning.{spot, weight_of, facet_four, not_flat}
+use Rattle.star_builder.proofs.TouchedFacets.{depth_value, side_some, alike, touched_facet}
 use Rattle.star_builder.proofs.Tilts.{IsUnder, IsTiltedAlong, tilt_along, IsTilted, tilt_about, volume_gap, keeps_zero, IsThrice, three_held}
 
 -- another facet with the point, and three vertices on both
@@ -69,12 +68,7 @@ module _ (p : VertexLists) (r : IsReflexive p) (m : Vector) (within : Contains p
   depth f = value (pos 1) (multiple (negsuc 0) f)
 
   depth_is : (f : Vector) (i : ℕ) → depth f i ≡ pos 1 +ℤ dot f (places i)
-  depth_is f i =
-      let v = places i in
-      ring (f.x1 ∷ f.x2 ∷ f.x3 ∷ f.x4 ∷ v.x1 ∷ v.x2 ∷ v.x3 ∷ v.x4 ∷ weights i ∷ [])
-      (minus (times (num (pos 1)) (var 8)) (dotE (record { x1 = times (num (negsuc 0)) (var 0); x2 = times (num (negsuc 0)) (var 1); x3 = times (num (negsuc 0)) (var 2); x4 = times (num (negsuc 0)) (var 3) }) (row 4)))
-      (plus (var 8) (dotE (row 0) (row 4))) refl
-      ∙ ap (λ z. z +ℤ dot f (places i)) (one i)
+  depth_is f i = depth_value p r x (pos 1) f i ∙ ap (λ z. z +ℤ dot f (places i)) (one i)
     where
       one : (i : ℕ) → weight_of (pos 1) i ≡ pos 1
       one zero = refl
@@ -253,58 +247,13 @@ module _ (p : VertexLists) (r : IsReflexive p) (m : Vector) (within : Contains p
         (gap_rise places weights (pos 1) (multiple (negsuc 0) m) t.y1 t.y2 t.y3 a d (depth_none m t.y1 tight_first.0) (depth_none m t.y2 tight_first.1) (depth_none m t.y3 tight_first.2) (depth_none m a (on_tight a ha))
         ∙ zero_out (pos 1) (rise places weights t.y1 t.y2 t.y3 a d) e))
 
-    -- what is 0 at the four is as the turned form
-    alike : (s' : ℤ) (n' : Vector) → (value s' n' t.y1 ≡ pos 0) × (value s' n' t.y2 ≡ pos 0) × (value s' n' t.y3 ≡ pos 0) × (value s' n' d ≡ pos 0) → (i : ℕ) → u a *ℤ value s' n' i ≡ value s' n' a *ℤ u i
-    alike s' n' z i = gaps_alike places weights turned_along.size turned_along.form s' n' t.y1 t.y2 t.y3 a d i independent apart touches z
-
-    abbrev side : ℕ → ℤ
-    side = rise places weights t.y1 t.y2 t.y3 d
-
-    side_gap : (i : ℕ) → side i ≡ value (det t.y1 t.y2 t.y3 d) (through places weights t.y1 t.y2 t.y3 d) i
-    side_gap i = rise_gap places weights t.y1 t.y2 t.y3 d i
-
-    sides : (i : ℕ) → u a *ℤ side i ≡ side a *ℤ u i
-    sides i =
-        (λ q. u a *ℤ side_gap i q)
-        ∙ alike (det t.y1 t.y2 t.y3 d) (through places weights t.y1 t.y2 t.y3 d) (
-          sym (side_gap t.y1) ∙ rise_first places weights t.y1 t.y2 t.y3 d,
-          sym (side_gap t.y2) ∙ rise_second places weights t.y1 t.y2 t.y3 d,
-          sym (side_gap t.y3) ∙ rise_third places weights t.y1 t.y2 t.y3 d,
-          sym (side_gap d) ∙ rise_fourth places weights t.y1 t.y2 t.y3 d,
-        ) i
-        ∙ (λ q. sym (side_gap a) q *ℤ u i)
-
-    flank : IsFlank p r x (pos 1) t.y1 t.y2 t.y3 d
-    flank = record {
-      numbers = (on_number t.y1 t.within.0, on_number t.y2 t.within.1, on_number t.y3 t.within.2, turned_along.within);
-      z = a;
-      within = on_number a ha;
-      apart = turned_not_zero (rise places weights t.y1 t.y2 t.y3 a d) (side a) (rise_exchange places weights t.y1 t.y2 t.y3 a d) apart;
-      one_side = ⊎_elim (λ l. inr (λ i c. up i c l)) (λ l. inl (λ i c. down i c l)) (sign_of (side a));
-    }
-      where
-        up : (i : ℕ) → Contains numbers i → pos 0 <ℤ side a → pos 0 ≤ℤ rise (spot x p.vertices) (weight_of (pos 1)) t.y1 t.y2 t.y3 turned_along.y i
-        up i c l = factor_not_negative (u a) (side i) above (subst (λ z. pos 0 ≤ℤ z) (sym (sides i)) (product_not_negative (side a) (u i) (not_negative (side a) l) (turned_along.under i c)))
-
-        down : (i : ℕ) → Contains numbers i → side a ≤ℤ pos 0 → rise (spot x p.vertices) (weight_of (pos 1)) t.y1 t.y2 t.y3 turned_along.y i ≤ℤ pos 0
-        down i c l =
-            back (side i) (factor_not_negative (u a) (neg_ℤ (side i)) above
-            (turned (u a *ℤ side i) (u i *ℤ side a) (u a *ℤ neg_ℤ (side i)) (sides i ∙ ring (side a ∷ u i ∷ []) (times (var 0) (var 1)) (times (var 1) (var 0)) refl)
-            (ring (u a ∷ side i ∷ []) (times (var 0) (neg (var 1))) (neg (times (var 0) (var 1))) refl) (product_not_positive (u i) (side a) (turned_along.under i c) l)))
-          where
-            back : (z : ℤ) → pos 0 ≤ℤ neg_ℤ z → z ≤ℤ pos 0
-            back z q = omega (arith, ints, q)
-
-            turned : (y z v : ℤ) → y ≡ z → v ≡ neg_ℤ y → z ≤ℤ pos 0 → pos 0 ≤ℤ v
-            turned y z v e1 e2 q = omega (arith, ints, e1, e2, q)
-
     found : (f : Vector) × Contains p.dual f × IsTight f (places t.y1) × IsTight f (places t.y2) × IsTight f (places t.y3) × IsTight f (places d) → IsRidgeAt p m x
     found (f, h, t1, t2, t3, td) = record {
       other = f;
       among = h;
       differs = λ e. turned_along.apart (depth_none m d (ap (λ v. dot v (places d)) (sym e) ∙ td));
       through_point = depth_tight f 0 (⊎_elim (λ e. absurd (positive_some (u a) above e)) (λ e. e)
-          (zero_factor (u a) (depth f 0) (alike (pos 1) (multiple (negsuc 0) f) (depth_none f t.y1 t1, depth_none f t.y2 t2, depth_none f t.y3 t3, depth_none f d td) 0 ∙ zero_out (depth f a) (u 0) (kept_zero 0 level zero_at))));
+          (zero_factor (u a) (depth f 0) (alike p r x (pos 1) turned_along.size turned_along.form a t.y1 t.y2 t.y3 d touches independent apart (pos 1) (multiple (negsuc 0) f) (depth_none f t.y1 t1, depth_none f t.y2 t2, depth_none f t.y3 t3, depth_none f d td) 0 ∙ zero_out (depth f a) (u 0) (kept_zero 0 level zero_at))));
       a = places t.y1;
       b = places t.y2;
       c = places t.y3;
@@ -315,7 +264,10 @@ module _ (p : VertexLists) (r : IsReflexive p) (m : Vector) (within : Contains p
     }
 
     turned_ridge : IsRidgeAt p m x
-    turned_ridge = found (facet_through p r x (pos 1) t.y1 t.y2 t.y3 d flank)
+    turned_ridge =
+        found (touched_facet p r x (pos 1) turned_along.size turned_along.form a t.y1 t.y2 t.y3 d touches independent apart turned_along.under (positive_some (u a) above)
+        (on_number t.y1 t.within.0, on_number t.y2 t.within.1, on_number t.y3 t.within.2, turned_along.within)
+        a (on_number a ha) (side_some p r x (pos 1) turned_along.size turned_along.form a t.y1 t.y2 t.y3 d touches independent apart))
 
   -- ---- from another facet with the point
 
