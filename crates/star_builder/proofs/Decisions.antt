@@ -1,7 +1,9 @@
 -- Decisions over signs, and over the numbers below a bound.
-use Rattle.std.proofs.Common.{◌≡◌, ◌≢◌, negsuc, ℕ, zero, suc, ◌<◌, ◌≤◌, ◌⊎◌, inl, inr, ⊎_elim, refl, sym, subst, arith, ℤ, pos, ◌<ℤ◌, neg_ℤ}
+use Rattle.std.proofs.Common.{◌≡◌, ◌≢◌, negsuc, ℕ, zero, suc, ◌<◌, ◌≤◌, ◌⊎◌, inl, inr, ⊎_elim, refl, sym, subst, arith, ℤ, pos, ◌<ℤ◌, neg_ℤ, List, [], ◌∷◌}
+use Rattle.std.specs.Prelude.{Contains}
 use Rattle.std.proofs.lemmas.Int.{ints}
-use Rattle.ntfe_model.proofs.Triples.{Decided}
+use Rattle.ntfe_model.proofs.Listings.{Contains-here, Contains-there, Contains-cases, Contains-none}
+use Rattle.ntfe_model.proofs.Triples.{Decided, decide_number}
 
 pub three_signs : (z : ℤ) → (pos 0 <ℤ z) ⊎ ((z ≡ pos 0) ⊎ (pos 0 <ℤ neg_ℤ z))
 three_signs (pos zero) = inr (inl refl)
@@ -22,6 +24,16 @@ decide_at_most x y = ⊎_elim inl (λ l. inr (λ m. absurd (omega (arith, l, m))
   where
     compare : (i j : ℕ) → (i ≤ j) ⊎ (j < i)
     compare i j = grind arith
+
+-- one of a list
+pub decide_in : (ks : List ℕ) (p : ℕ) → Decided (Contains ks p)
+decide_in [] p = inr (λ c. Contains-none p c)
+decide_in (k ∷ ks) p = by (decide_number p k) (decide_in ks p)
+  where
+    by : Decided (p ≡ k) → Decided (Contains ks p) → Decided (Contains (k ∷ ks) p)
+    by (inl e) d = inl (Contains-here p k ks e)
+    by (inr n) (inl c) = inl (Contains-there p k ks c)
+    by (inr n) (inr m) = inr (λ c. ⊎_elim n m (Contains-cases p k ks c))
 
 pub split_last : (k n : ℕ) → k < suc n → (k < n) ⊎ (k ≡ n)
 split_last k n l = grind (arith, l)

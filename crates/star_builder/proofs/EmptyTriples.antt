@@ -15,7 +15,7 @@ use Rattle.ntfe_model.proofs.GeometryPoints.{point_within, point_place}
 use Rattle.ntfe_model.proofs.PlaneNumbers.{cancel_other, sign_positive}
 use Rattle.ntfe_model.proofs.UnitTriples.{area_of}
 use Rattle.star_builder.proofs.FourWeights.{IsMixOf}
-use Rattle.star_builder.proofs.FacePlanes.{first_of, second_of, area_wedge, coordinate_mix, wedge_weight, wedge_sum, plane_mix}
+use Rattle.star_builder.proofs.FacePlanes.{rotated, first_of, second_of, area_wedge, coordinate_mix, wedge_weight, wedge_sum, plane_mix}
 use Rattle.star_builder.proofs.FaceSimplices.{IsBelowFace}
 use Rattle.star_builder.proofs.MixedPoints.{mixed_point}
 use Rattle.star_builder.proofs.Planar.{wedge, wedge_turn, wedge_outer, wedge_last}
@@ -145,9 +145,6 @@ module _ (g : Shape) (s : IsShape g) (f : ℕ) (within : f < length g.faces) (v 
       where
         without_fourth : (x y z u : ℤ) → x +ℤ (y +ℤ (z +ℤ pos 0 *ℤ u)) ≡ x +ℤ (y +ℤ z)
         without_fourth x y z u = omega (arith, ints)
-
-    rotated : (k x y z : ℤ) → k ≡ x +ℤ (y +ℤ z) → k ≡ y +ℤ (z +ℤ x)
-    rotated k x y z e = omega (arith, ints, e)
 
     same : (w l : ℤ) → wedged a b c *ℤ w ≡ l *ℤ wedged a b c → w ≡ l
     same w l e = cancel_other w l (wedged a b c) flat (ring (w ∷ wedged a b c ∷ []) (times (var 0) (var 1)) (times (var 1) (var 0)) refl ∙ e)

@@ -59,6 +59,9 @@ wedge_weight k l1 l2 l3 ax ay bx by cx cy px py e ex ey =
     minus (times (minus (var 7) (var 5)) (minus (sum3 4) (times all (var 6)))) (times (minus (var 8) (var 6)) (minus (sum3 3) (times all (var 5)))))
     (times (var 0) (minus (times (minus (var 5) (var 3)) (minus (var 8) (var 4))) (times (minus (var 6) (var 4)) (minus (var 7) (var 3))))) refl
 
+pub rotated : (k x y z : ℤ) → k ≡ x +ℤ (y +ℤ z) → k ≡ y +ℤ (z +ℤ x)
+rotated k x y z e = omega (arith, ints, e)
+
 module _ (g : Shape) (s : IsShape g) (f : ℕ) (within : f < length g.faces) (v : ℕ → ℤ) where
   abbrev spot : ℕ → Vector
   spot = place_of_point g.points
@@ -249,9 +252,6 @@ module _ (g : Shape) (s : IsShape g) (f : ℕ) (within : f < length g.faces) (v 
         -- the wedges with p are as the weights
         first_weight : size *ℤ wedged b c p ≡ (m p op).l1 *ℤ wedged a b c
         first_weight = wedge_weight size (m p op).l1 (m p op).l2 (m p op).l3 (first_of a) (second_of a) (first_of b) (second_of b) (first_of c) (second_of c) (first_of p) (second_of p) (size_is p op) (in_coordinate p op q0) (in_coordinate p op q1)
-
-        rotated : (k x y z : ℤ) → k ≡ x +ℤ (y +ℤ z) → k ≡ y +ℤ (z +ℤ x)
-        rotated k x y z e = omega (arith, ints, e)
 
         second_weight : size *ℤ wedged c a p ≡ (m p op).l2 *ℤ wedged a b c
         second_weight =

@@ -4,7 +4,7 @@
 --     some_left      some point lies to the left of a step
 --     step_triple      a lower triple at a step
 --     lower_step      a side of a lower triple without one on the other side is a step
-use Rattle.std.proofs.Common.{◌≡◌, ◌≢◌, ℕ, zero, suc, ◌+◌, ◌-◌, ◌<◌, inl, inr, ⊎_elim, refl, sym, ap, ◌∙◌, subst, arith, ℤ, pos, negsuc, ◌+ℤ◌, ◌-ℤ◌, ◌*ℤ◌, ◌<ℤ◌, ◌≤ℤ◌, neg_ℤ, List, [], ◌∷◌, length}
+use Rattle.std.proofs.Common.{◌≡◌, ◌≢◌, ℕ, zero, suc, ◌+◌, ◌-◌, ◌<◌, ⊎_elim, refl, sym, ap, ◌∙◌, subst, arith, ℤ, pos, negsuc, ◌+ℤ◌, ◌-ℤ◌, ◌*ℤ◌, ◌<ℤ◌, ◌≤ℤ◌, neg_ℤ, List, [], ◌∷◌, length}
 use Rattle.std.specs.Prelude.{Contains, slice_index_or}
 use Rattle.std.proofs.lemmas.Int.{ints}
 use Rattle.ntfe_nums.specs.Vectors.{Vector, numbers, coordinate, vector_sum, multiple, sign}
@@ -14,11 +14,11 @@ use Rattle.ntfe_model.specs.Points.{place_of_point}
 use Rattle.ntfe_model.specs.Shapes.{Shape, IsShape}
 use Rattle.ntfe_model.specs.Charts.{patch_at, place, turn, spot_numbers, IsOf, IsOnSegment, IsStep}
 use Rattle.ntfe_model.proofs.GeometryPoints.{point_within, point_place}
-use Rattle.ntfe_model.proofs.Listings.{Contains-here, Contains-there, Contains-cases, Contains-none}
 use Rattle.ntfe_model.proofs.PlaneNumbers.{cancel_other, sign_negative}
-use Rattle.ntfe_model.proofs.Triples.{Decided, decide_number}
+use Rattle.ntfe_model.proofs.Triples.{Decided}
 use Rattle.ntfe_model.proofs.UnitTriples.{area_of}
 use Rattle.star_builder.proofs.FourWeights.{IsMixOf, mixed_sum}
+use Rattle.star_builder.proofs.Decisions.{decide_in}
 use Rattle.star_builder.proofs.EmptyTriples.{empty_triple}
 use Rattle.star_builder.proofs.FaceLevels.{face_apart}
 use Rattle.star_builder.proofs.FacePlanes.{first_of, second_of, area_wedge, wedge_sum, plane_mix}
@@ -75,13 +75,7 @@ wedge_two k l1 l2 ix iy jx jy ax ay bx by px py e ex ey =
 
 -- whether a number is in a list
 pub decide_listed : (ks : List ℕ) (p : ℕ) → Decided (Contains ks p)
-decide_listed [] p = inr (λ c. Contains-none p c)
-decide_listed (k ∷ ks) p = by (decide_number p k) (decide_listed ks p)
-  where
-    by : Decided (p ≡ k) → Decided (Contains ks p) → Decided (Contains (k ∷ ks) p)
-    by (inl e) d = inl (Contains-here p k ks e)
-    by (inr n) (inl c) = inl (Contains-there p k ks c)
-    by (inr n) (inr m) = inr (λ c. ⊎_elim n m (Contains-cases p k ks c))
+decide_listed = decide_in
 
 module _ (g : Shape) (s : IsShape g) (f : ℕ) (within : f < length g.faces) (v : ℕ → ℤ) (used : (p : ℕ) → IsOf (patch_at g f) p → IsUsed g.points v p) where
   abbrev On : ℕ → Type 0

@@ -11,11 +11,11 @@ use Rattle.ntfe_nums.proofs.Ring.Expression.{var, num, plus, minus, times, neg}
 use Rattle.ntfe_nums.proofs.Signs.{positive_product, product_exchanged, zero_out, sum_positive, least_once, zero_not_negative, positive_some, less_or_least}
 use Rattle.ntfe_model.specs.Pairs.{IsSmall}
 use Rattle.ntfe_model.specs.Charts.{Spot, Patch, axes, axis_pairs, first_that_spans, spans, place, spot_numbers, IsOf, turn, IsOnSegment, IsStep, AreApart}
-use Rattle.ntfe_model.proofs.Listings.{Contains-here, Contains-there, Contains-cases, Contains-none}
+use Rattle.ntfe_model.proofs.Listings.{Contains-cases, Contains-none}
 use Rattle.ntfe_model.proofs.PlaneNumbers.{positive_factor, cancel, sign_not_right, zero_factor}
-use Rattle.ntfe_model.proofs.Triples.{Decided, decide_number}
+use Rattle.ntfe_model.proofs.Triples.{Decided}
 use Rattle.ntfe_model.proofs.UnitTriples.{area_of}
-use Rattle.star_builder.proofs.Decisions.{three_signs}
+use Rattle.star_builder.proofs.Decisions.{three_signs, decide_in}
 use Rattle.star_builder.proofs.FacetPoints.{int_eq_to}
 use Rattle.star_builder.proofs.Least.{least_with}
 use Rattle.ntfe_nums.proofs.Comparisons.{other_passes}
@@ -159,16 +159,7 @@ module _ (h : Patch) (apart : AreApart h) (small : (p : ℕ) → IsOf h p → Is
   rank p = weigh (x_of p) (y_of p)
 
   decide_of : (p : ℕ) → Decided (IsOf h p)
-  decide_of p = by (spot_numbers h)
-    where
-      by : (ks : List ℕ) → Decided (Contains ks p)
-      by [] = inr (λ c. Contains-none p c)
-      by (k ∷ ks) = go (decide_number p k) (by ks)
-        where
-          go : Decided (p ≡ k) → Decided (Contains ks p) → Decided (Contains (k ∷ ks) p)
-          go (inl e) q = inl (Contains-here p k ks e)
-          go (inr n) (inl c) = inl (Contains-there p k ks c)
-          go (inr n) (inr m) = inr (λ c. ⊎_elim n m (Contains-cases p k ks c))
+  decide_of p = decide_in (spot_numbers h) p
 
   same_rank : (p r : ℕ) → IsOf h p → IsOf h r → rank p ≡ rank r → (x_of p ≡ x_of r) × (y_of p ≡ y_of r)
   same_rank p r i j e =

@@ -47,6 +47,18 @@ has_third a b c d = Contains-there c a (b ∷ c ∷ d ∷ []) (Contains-there c 
 pub has_fourth : (a b c d : ℕ) → Contains (a ∷ b ∷ c ∷ d ∷ []) d
 has_fourth a b c d = Contains-there d a (b ∷ c ∷ d ∷ []) (Contains-there d b (c ∷ d ∷ []) (Contains-there d c (d ∷ []) (Contains-here d d [] refl)))
 
+-- what is not one of four is none of them
+pub none_of_four : (a b c d p : ℕ) → ¬ (Contains (a ∷ b ∷ c ∷ d ∷ []) p) → (p ≢ a) × (p ≢ b) × (p ≢ c) × (p ≢ d)
+none_of_four a b c d p out = (
+  (λ e. out (named a e (has_first a b c d))),
+  (λ e. out (named b e (has_second a b c d))),
+  (λ e. out (named c e (has_third a b c d))),
+  (λ e. out (named d e (has_fourth a b c d))),
+)
+  where
+    named : (k : ℕ) → p ≡ k → Contains (a ∷ b ∷ c ∷ d ∷ []) k → Contains (a ∷ b ∷ c ∷ d ∷ []) p
+    named k e h = subst (λ j. Contains (a ∷ b ∷ c ∷ d ∷ []) j) (sym e) h
+
 -- ---- four points above which the others rise
 
 pub record IsLow (xs : List Point) (v : ℕ → ℤ) (m : Vector) (a b c d : ℕ) : Type 0 where
@@ -159,12 +171,9 @@ module _ (ms : List Vector) (xs : List Point) (w : List ℤ) (order : List ℕ) 
     number = number;
     tight = low_tight xs heights (entry ms facet) a b c d l;
     independent = l.independent;
-    others = λ p n out t. others p n (λ e. out (named p a e (has_first a b c d))) (λ e. out (named p b e (has_second a b c d))) (λ e. out (named p c e (has_third a b c d))) (λ e. out (named p d e (has_fourth a b c d))) t;
+    others = λ p n out t. let o = none_of_four a b c d p out in others p n o.0 o.1 o.2 o.3 t;
   }
     where
-      named : (p k : ℕ) → p ≡ k → Contains (a ∷ b ∷ c ∷ d ∷ []) k → Contains (a ∷ b ∷ c ∷ d ∷ []) p
-      named p k e h = subst (λ j. Contains (a ∷ b ∷ c ∷ d ∷ []) j) (sym e) h
-
       others : (p : ℕ) → IsNumberOf xs p → p ≢ a → p ≢ b → p ≢ c → p ≢ d → IsTight (entry ms facet) (place_of_point xs p) → IsLexAbove xs w order a b c d p
       others p n pa pb pc pd t =
           rises_lex w order xs a b c d p l.independent (volume_five xs heights (entry ms facet) a b c d p l.independent pa pb pc pd) (in_order p n)

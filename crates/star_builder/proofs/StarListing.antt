@@ -20,7 +20,7 @@ use Rattle.ntfe_model.proofs.Listings.{Contains-here, listing_filter, listing_gr
 use Rattle.ntfe_model.proofs.Triples.{Decided, decide_number, decide_both, decide_all3, decide_not, decide_integer}
 use Rattle.star_builder.proofs.Decisions.{decide_less, decide_at_most, decide_all_below, decide_some_below, decide_given, decide_both4}
 use Rattle.star_builder.proofs.FourPoints.{in_four}
-use Rattle.star_builder.proofs.LowSimplices.{has_first, has_second, has_third, has_fourth}
+use Rattle.star_builder.proofs.LowSimplices.{none_of_four, has_first, has_second, has_third, has_fourth}
 use Rattle.star_builder.proofs.WholeHeights.{decide_lex}
 
 -- ---- whether four points are a member
@@ -81,13 +81,9 @@ module _ (ms : List Vector) (xs : List Point) (w : List ℤ) (order : List ℕ) 
       number = f.0;
       tight = λ k h. tight k (in_four a b c d k h);
       independent = i;
-      others = λ p n out t. f.2 p (let k = n.1 in omega (arith, k)) n
-          ((λ e. out (named p a e (has_first a b c d))), (λ e. out (named p b e (has_second a b c d))), (λ e. out (named p c e (has_third a b c d))), (λ e. out (named p d e (has_fourth a b c d)))) t;
+      others = λ p n out t. f.2 p (let k = n.1 in omega (arith, k)) n (none_of_four a b c d p out) t;
     }
       where
-        named : (p k : ℕ) → p ≡ k → Contains (a ∷ b ∷ c ∷ d ∷ []) k → Contains (a ∷ b ∷ c ∷ d ∷ []) p
-        named p k e h = subst (λ j. Contains (a ∷ b ∷ c ∷ d ∷ []) j) (sym e) h
-
         tight : (k : ℕ) → (k ≡ a) ⊎ ((k ≡ b) ⊎ ((k ≡ c) ⊎ (k ≡ d))) → IsTight (entry ms m) (spot k)
         tight k (inl e) = ap (λ j. dot (entry ms m) (spot j)) e ∙ f.1.0
         tight k (inr (inl e)) = ap (λ j. dot (entry ms m) (spot j)) e ∙ f.1.1
