@@ -1,4 +1,4 @@
--- One mixture of independent points decides whether a point is above them.
+-- One combination of independent points decides whether a point is above them.
 use Rattle.std.proofs.Common.{◌≡◌, ◌≢◌, ◌∙◌, ℕ, ◌^◌, ◌≤◌, ◌⊎◌, inr, ⊎_elim, false, sym, ap, subst, arith, ℤ, pos, ◌<ℤ◌, ◌≤ℤ◌, ◌+ℤ◌, ◌-ℤ◌, ◌*ℤ◌, List, map, unsigned_abs, to_z, of_z}
 use lib.Signed.{lt_z}
 use Rattle.std.proofs.lemmas.Int.{ints}
@@ -6,18 +6,18 @@ use Rattle.std.specs.Int.{w128}
 use Rattle.ntfe_nums.proofs.Machine.{back}
 use Rattle.ntfe_nums.proofs.Comparisons.{least_from_test}
 use Rattle.ntfe_model.specs.Choices.{height}
-use Rattle.ntfe_model.specs.Stars.{IsMixture, IsLexAbove, IsFirstPositive, push_coefficient}
+use Rattle.ntfe_model.specs.Stars.{IsCombination, IsLexAbove, IsFirstPositive, push_coefficient}
 use Rattle.ntfe_model.specs.declared.point.Point.{Point}
 use Rattle.star_builder.specs.declared.four.Four.{Four}
-use Rattle.star_builder.specs.declared.frame.Mixture.{Mixture}
+use Rattle.star_builder.specs.declared.frame.Combination.{Combination}
 use Rattle.star_builder.specs.Fours.{AreIndependent}
-use Rattle.star_builder.proofs.Mixtures.{rises_of_above}
+use Rattle.star_builder.proofs.Combinations.{rises_of_above}
 
 not_first : (z : ℤ) → z ≢ pos 0 → z ≤ℤ pos 0 → pos 0 <ℤ z → ⊥
 not_first z ne h k = absurd (omega (arith, ints, h, k))
 
-module _ (xs : List Point) (w : List ℤ) (order : List ℕ) (f : Four) (p : ℕ) (m : Mixture)
-    (mixed : IsMixture xs f.a f.b f.c f.d p m.size m.first m.second m.third m.fourth) where
+module _ (xs : List Point) (w : List ℤ) (order : List ℕ) (f : Four) (p : ℕ) (m : Combination)
+    (mixed : IsCombination xs f.a f.b f.c f.d p m.size m.first m.second m.third m.fourth) where
   abbrev rise_of : ℤ
   rise_of = m.size *ℤ height w p -ℤ (m.first *ℤ height w f.a +ℤ m.second *ℤ height w f.b +ℤ m.third *ℤ height w f.c +ℤ m.fourth *ℤ height w f.d)
 
@@ -26,7 +26,7 @@ module _ (xs : List Point) (w : List ℤ) (order : List ℕ) (f : Four) (p : ℕ
 
   module _ (up : ℤ) (e : up ≡ rise_of) where
     pub tied_above : up ≡ pos 0 → IsFirstPositive coefficients → IsLexAbove xs w order f.a f.b f.c f.d p
-    tied_above z h = record { l1 = m.first; l2 = m.second; l3 = m.third; l4 = m.fourth; size = m.size; mixture = mixed; above = inr (sym e ∙ z, h) }
+    tied_above z h = record { l1 = m.first; l2 = m.second; l3 = m.third; l4 = m.fourth; size = m.size; combination = mixed; above = inr (sym e ∙ z, h) }
 
     module _ (independent : AreIndependent xs f) where
       decided : IsLexAbove xs w order f.a f.b f.c f.d p → (pos 0 <ℤ up) ⊎ ((up ≡ pos 0) × IsFirstPositive coefficients)

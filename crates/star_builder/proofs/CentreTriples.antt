@@ -5,7 +5,7 @@ use Rattle.std.proofs.lemmas.Int.{ints}
 use Rattle.ntfe_nums.specs.Vectors.{Vector, coordinate, area}
 use Rattle.ntfe_nums.proofs.Ring.{Expression, ring}
 use Rattle.ntfe_nums.proofs.Ring.Expression.{var, plus, minus, times, neg}
-use Rattle.ntfe_nums.proofs.Signs.{negative_or, positive_product}
+use Rattle.ntfe_nums.proofs.Signs.{negative_or, positive_product, positive_some, negative_turned}
 use Rattle.ntfe_model.specs.Charts.{Patch, axes, place, IsOf, AreApart}
 use Rattle.ntfe_model.specs.Triangulations.{IsRotationOf, IsFine}
 use Rattle.ntfe_model.specs.Choices.{height, IsAbove, IsRegularBy}
@@ -21,7 +21,7 @@ use Rattle.ntfe_model.proofs.FoldPlanes.{AreFoldsPositive, above_gives_folds, le
 -- ---- whole numbers
 
 -- a factor that is not negative keeps an order
-pub times_keeps : (k x y : ℤ) → pos 0 ≤ℤ k → x ≤ℤ y → (k *ℤ x) ≤ℤ (k *ℤ y)
+times_keeps : (k x y : ℤ) → pos 0 ≤ℤ k → x ≤ℤ y → (k *ℤ x) ≤ℤ (k *ℤ y)
 times_keeps (negsuc n) x y l m = absurd (omega (arith, ints, l))
 times_keeps (pos zero) x y l m = zeros (pos 0 *ℤ x) (pos 0 *ℤ y) (omega (arith, ints)) (omega (arith, ints))
   where
@@ -46,7 +46,7 @@ times_keeps (pos (suc n)) x y l m = by (y -ℤ x) refl
     by (negsuc k) e = absurd (omega (arith, ints, m, e))
 
 -- a positive factor may be left out
-pub factor_out : (k x y : ℤ) → pos 0 <ℤ k → (k *ℤ x) ≤ℤ (k *ℤ y) → x ≤ℤ y
+factor_out : (k x y : ℤ) → pos 0 <ℤ k → (k *ℤ x) ≤ℤ (k *ℤ y) → x ≤ℤ y
 factor_out k x y l m = by (negative_or (y -ℤ x))
   where
     back : pos 0 ≤ℤ (y -ℤ x) → x ≤ℤ y
@@ -64,7 +64,7 @@ factor_out k x y l m = by (negative_or (y -ℤ x))
         absurd (clash (k *ℤ x) (k *ℤ y) (k *ℤ (x -ℤ y)) (positive_product k (x -ℤ y) l (turned p))
         (ring (k ∷ x ∷ y ∷ []) (times (var 0) (minus (var 1) (var 2))) (minus (times (var 0) (var 1)) (times (var 0) (var 2))) refl) m)
 
--- ---- a plane at a mixture of three points
+-- ---- a plane at a combination of three points
 
 abbrev flatE : ℕ → ℕ → ℕ → Expression
 flatE a b c = minus (times (minus (var b) (var a)) (minus (var (suc c)) (var (suc a)))) (times (minus (var (suc b)) (var (suc a))) (minus (var c) (var a)))
@@ -123,20 +123,17 @@ area_odd h a b c =
     ∙ ap neg_ℤ (area_turn (axes h) (place h a) (place h b) (place h c))
 
 -- three corners that turn to the left, of a triple that does so, are its corners in its order
-pub corners_in_order : (h : Patch) (t : Triangle) (a b c : ℕ) → pos 0 <ℤ area_of h t.a t.b t.c → pos 0 <ℤ area_of h a b c → IsCornerOf t a → IsCornerOf t b → IsCornerOf t c → IsRotationOf t a b c
+corners_in_order : (h : Patch) (t : Triangle) (a b c : ℕ) → pos 0 <ℤ area_of h t.a t.b t.c → pos 0 <ℤ area_of h a b c → IsCornerOf t a → IsCornerOf t b → IsCornerOf t c → IsRotationOf t a b c
 corners_in_order h t a b c l m = by
   where
-    no : (x : ℤ) → pos 0 <ℤ x → x ≡ pos 0 → ⊥
-    no x k e = absurd (omega (arith, ints, k, e))
-
     front : a ≢ b
-    front e = no (area_of h a b c) m (ap (λ k. area_of h k b c) e ∙ flat_front (axes h) (place h b) (place h c))
+    front e = positive_some (area_of h a b c) m (ap (λ k. area_of h k b c) e ∙ flat_front (axes h) (place h b) (place h c))
 
     last : b ≢ c
-    last e = no (area_of h a b c) m (ap (λ k. area_of h a k c) e ∙ flat_last (axes h) (place h a) (place h c))
+    last e = positive_some (area_of h a b c) m (ap (λ k. area_of h a k c) e ∙ flat_last (axes h) (place h a) (place h c))
 
     outer : a ≢ c
-    outer e = no (area_of h a b c) m (ap (λ k. area_of h k b c) e ∙ flat_outer (axes h) (place h c) (place h b))
+    outer e = positive_some (area_of h a b c) m (ap (λ k. area_of h k b c) e ∙ flat_outer (axes h) (place h c) (place h b))
 
     both : (x y : ℤ) → pos 0 <ℤ x → pos 0 <ℤ y → y ≡ neg_ℤ x → ⊥
     both x y j k e = absurd (omega (arith, ints, j, k, e))
@@ -241,14 +238,11 @@ module _ (h : Patch) (apart : AreApart h) (w : List ℤ) (x : Triangulation) (fi
         higher : IsHigherBeyond h w x.triangles m y z → (beside y z <ℤ pos 0) → ⊥
         higher r l =
             clash (centre m) (centre r.other) (neg_ℤ (beside y z) *ℤ r.fold)
-            (positive_product (neg_ℤ (beside y z)) r.fold (up (beside y z) l) r.positive)
+            (positive_product (neg_ℤ (beside y z)) r.fold (negative_turned (beside y z) l) r.positive)
             ((λ j. r.rise a j +ℤ r.rise b j +ℤ r.rise c j)
             ∙ sums (level_of h w a m) (level_of h w b m) (level_of h w c m) (area_of h y z a) (area_of h y z b) (area_of h y z c) r.fold)
             (most r.other r.among)
           where
-            up : (n : ℤ) → n <ℤ pos 0 → pos 0 <ℤ neg_ℤ n
-            up n p = omega (arith, ints, p)
-
             clash : (n o q : ℤ) → pos 0 <ℤ q → o ≡ n +ℤ q → o ≤ℤ n → ⊥
             clash n o q p e f = absurd (omega (arith, ints, p, e, f))
 

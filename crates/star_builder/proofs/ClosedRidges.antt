@@ -15,11 +15,10 @@ use Rattle.star_builder.proofs.FourPoints.{in_four}
 use Rattle.star_builder.proofs.OuterRidges.{second_facet}
 use Rattle.star_builder.proofs.Ridges.{IsSplit}
 use Rattle.star_builder.proofs.Rises.{volume}
-use Rattle.star_builder.proofs.Sorting.{less_or}
 use Rattle.star_builder.proofs.Supports.{tight_points}
 use Rattle.star_builder.proofs.WholeHeights.{whole}
 use Rattle.star_builder.proofs.Searches.{some_or_all}
-use Rattle.ntfe_nums.proofs.Signs.{negative_or}
+use Rattle.ntfe_nums.proofs.Signs.{negative_or, two_orders}
 
 module _ (g : Shape) (w : List ℤ) (order : List ℕ) (star : List (List ℕ)) (s : IsShape g) (all : IsOrder (length g.points) order) (is : IsStar g.pair.dual g.points w order star)
     (members : List ℕ) (member : IsMember g.pair.dual g.points w order members) (without : ℕ)
@@ -63,7 +62,7 @@ module _ (g : Shape) (w : List ℤ) (order : List ℕ) (star : List (List ℕ)) 
       ⊎_elim
       (λ l. record { ridge = ridge; has = has_ridge; first = f; second = member.facet; differ = l; both = ((n, ridge_tight (entry g.pair.dual f) ti tj tk), own) })
       (λ l. record { ridge = ridge; has = has_ridge; first = member.facet; second = f; differ = l; both = (own, (n, ridge_tight (entry g.pair.dual f) ti tj tk)) })
-      (less_or f member.facet apart)
+      (two_orders f member.facet apart)
     where
       own : AreIn g.pair.dual g.points member.facet (split.i ∷ split.j ∷ split.k ∷ [])
       own = (member.number, ridge_tight (entry g.pair.dual member.facet) split.low.tight.0 split.low.tight.1 split.low.tight.2)

@@ -45,7 +45,7 @@ module _ (g : Shape) (w : List ℤ) (order : List ℕ) (star : List (List ℕ)) 
     vertex_on : (i : ℕ) → i < length g.pair.vertices → IsTight m (at g.pair.vertices i)
         → (k : ℕ) × Contains (tight_points m g.points) k × (place_of_point g.points k ≡ at g.pair.vertices i)
     vertex_on i l t =
-        let r = vertex_number g s (at g.pair.vertices i) (Contains-get_or g.pair.vertices i origin l) in
+        let r = vertex_number g.pair g.points s.reflexive s.points (at g.pair.vertices i) (Contains-get_or g.pair.vertices i origin l) in
         (r.0, in_tight m g.points r.0 r.1 (subst (λ x. IsTight m x) (sym r.2) t), r.2)
 
     pub facet_has_member : (members : List ℕ) × Contains star members × AreIn g.pair.dual g.points facet members

@@ -9,7 +9,7 @@ use Rattle.ntfe_nums.specs.Vectors.{Vector, origin, dot, det4}
 use Rattle.ntfe_nums.proofs.Exchanges.{cramer_form}
 use Rattle.ntfe_nums.proofs.Ring.{ring}
 use Rattle.ntfe_nums.proofs.Ring.Expression.{var, plus, minus, times}
-use Rattle.ntfe_nums.proofs.Signs.{above_zero, product_not_negative, square_not_negative, same_or, zero_or}
+use Rattle.ntfe_nums.proofs.Signs.{above_zero, product_not_negative, square_not_negative, same_or, zero_or, two_orders}
 use Rattle.ntfe_model.specs.Lists.{IsNumberOf}
 use Rattle.ntfe_model.specs.Pairs.{IsSmall, entry}
 use Rattle.ntfe_model.specs.Points.{place_of_point}
@@ -34,7 +34,6 @@ use Rattle.star_builder.proofs.LowSimplices.{IsLow, has_first, has_second, has_t
 use Rattle.star_builder.proofs.MemberLemmas.{member_facet, member_independent, member_others}
 use Rattle.star_builder.proofs.OuterRidges.{point_over}
 use Rattle.star_builder.proofs.Ridges.{IsSplit, HaveSame, same_then, rising_same, split_ridge}
-use Rattle.star_builder.proofs.Sorting.{less_or}
 use Rattle.star_builder.proofs.StarListing.{star_exists, push_order}
 use Rattle.star_builder.proofs.VertexPoints.{point_small}
 use Rattle.star_builder.proofs.WholeHeights.{whole}
@@ -138,7 +137,7 @@ module _ (g : Shape) (s : IsShape g) (w : List ℤ) (order : List ℕ) (all : Is
     outer_not_across o p np across =
         ⊎_elim
         (λ e. not_in_other o.second o o.both.1 (λ q. apart o.first o.second o.both.0.0 o.both.1.0 o.differ (ap (entry g.pair.dual) e ∙ facet_is ∙ sym q)) p np across)
-        (λ n. not_in_other o.first o o.both.0 (λ q. ⊎_elim (λ l. apart o.first member.facet o.both.0.0 member.number l (q ∙ sym facet_is)) (λ l. apart member.facet o.first member.number o.both.0.0 l (facet_is ∙ sym q)) (less_or o.first member.facet n)) p np across)
+        (λ n. not_in_other o.first o o.both.0 (λ q. ⊎_elim (λ l. apart o.first member.facet o.both.0.0 member.number l (q ∙ sym facet_is)) (λ l. apart member.facet o.first member.number o.both.0.0 l (facet_is ∙ sym q)) (two_orders o.first member.facet n)) p np across)
         (same_or o.first member.facet)
       where
         apart : (i j : ℕ) → IsNumberOf g.pair.dual i → IsNumberOf g.pair.dual j → i < j → entry g.pair.dual i ≢ entry g.pair.dual j

@@ -233,19 +233,18 @@ module _ (xs : List Point) (m : Vector) (r : Ridge) where
       above_high : IsLexAbove xs w order f.a f.b f.c f.d p → pos 0 <ℤ high e p
       above_high l =
           subst (λ z. pos 0 <ℤ z) (joined_rises v e f joined (across_some without e across) p)
-          (lex_rises w order xs f.a f.b f.c f.d p
+          (lex_rises w order xs f.a f.b f.c f.d p independent
           (volume_five xs v m f.a f.b f.c f.d p independent (apart f.a (has_first f.a f.b f.c f.d)) (apart f.b (has_second f.a f.b f.c f.d)) (apart f.c (has_third f.a f.b f.c f.d)) (apart f.d (has_fourth f.a f.b f.c f.d)))
           (in_order [] xs w order all small_at p np)
           (small_at f.a (number f.a (has_first f.a f.b f.c f.d))) (small_at f.b (number f.b (has_second f.a f.b f.c f.d))) (small_at f.c (number f.c (has_third f.a f.b f.c f.d))) (small_at f.d (number f.d (has_fourth f.a f.b f.c f.d))) (small_at p np)
-          independent l)
+          l)
 
       high_above : pos 0 <ℤ high e p → IsLexAbove xs w order f.a f.b f.c f.d p
       high_above l =
-          rises_lex w order xs f.a f.b f.c f.d p
+          rises_lex w order xs f.a f.b f.c f.d p independent
           (volume_five xs v m f.a f.b f.c f.d p independent (apart f.a (has_first f.a f.b f.c f.d)) (apart f.b (has_second f.a f.b f.c f.d)) (apart f.c (has_third f.a f.b f.c f.d)) (apart f.d (has_fourth f.a f.b f.c f.d)))
           (in_order [] xs w order all small_at p np)
           (small_at f.a (number f.a (has_first f.a f.b f.c f.d))) (small_at f.b (number f.b (has_second f.a f.b f.c f.d))) (small_at f.c (number f.c (has_third f.a f.b f.c f.d))) (small_at f.d (number f.d (has_fourth f.a f.b f.c f.d))) (small_at p np)
-          independent
           (subst (λ z. pos 0 <ℤ z) (sym (joined_rises v e f joined (across_some without e across) p)) l)
 
     -- all others are above the lowest

@@ -5,7 +5,7 @@ use Rattle.ntfe_nums.proofs.Ring.{ring}
 use Rattle.ntfe_nums.proofs.Ring.Expression.{var, times}
 use Rattle.ntfe_nums.proofs.DetLemmas.{Row, row, det4E, dotE, of5}
 use Rattle.ntfe_model.specs.Reflexive.{IsTight}
-use Rattle.star_builder.proofs.Mixtures.{same_factor}
+use Rattle.ntfe_model.proofs.PlaneNumbers.{cancel_other}
 
 -- the vector with another number in one place
 abbrev with1 : ℤ → Vector → Vector
@@ -59,8 +59,8 @@ dual_unique a b c d m n ne p q r s p' q' r' s' =
     let g = r ∙ sym r' in
     let h = s ∙ sym s' in
     λ i. record {
-      x1 = same_factor m.x1 n.x1 (det4 a b c d) ne (column1 a b c d m ∙ (λ j. det4 (with1 (e j) a) (with1 (f j) b) (with1 (g j) c) (with1 (h j) d)) ∙ sym (column1 a b c d n)) i;
-      x2 = same_factor m.x2 n.x2 (det4 a b c d) ne (column2 a b c d m ∙ (λ j. det4 (with2 (e j) a) (with2 (f j) b) (with2 (g j) c) (with2 (h j) d)) ∙ sym (column2 a b c d n)) i;
-      x3 = same_factor m.x3 n.x3 (det4 a b c d) ne (column3 a b c d m ∙ (λ j. det4 (with3 (e j) a) (with3 (f j) b) (with3 (g j) c) (with3 (h j) d)) ∙ sym (column3 a b c d n)) i;
-      x4 = same_factor m.x4 n.x4 (det4 a b c d) ne (column4 a b c d m ∙ (λ j. det4 (with4 (e j) a) (with4 (f j) b) (with4 (g j) c) (with4 (h j) d)) ∙ sym (column4 a b c d n)) i;
+      x1 = cancel_other m.x1 n.x1 (det4 a b c d) ne (column1 a b c d m ∙ (λ j. det4 (with1 (e j) a) (with1 (f j) b) (with1 (g j) c) (with1 (h j) d)) ∙ sym (column1 a b c d n)) i;
+      x2 = cancel_other m.x2 n.x2 (det4 a b c d) ne (column2 a b c d m ∙ (λ j. det4 (with2 (e j) a) (with2 (f j) b) (with2 (g j) c) (with2 (h j) d)) ∙ sym (column2 a b c d n)) i;
+      x3 = cancel_other m.x3 n.x3 (det4 a b c d) ne (column3 a b c d m ∙ (λ j. det4 (with3 (e j) a) (with3 (f j) b) (with3 (g j) c) (with3 (h j) d)) ∙ sym (column3 a b c d n)) i;
+      x4 = cancel_other m.x4 n.x4 (det4 a b c d) ne (column4 a b c d m ∙ (λ j. det4 (with4 (e j) a) (with4 (f j) b) (with4 (g j) c) (with4 (h j) d)) ∙ sym (column4 a b c d n)) i;
     }

@@ -12,14 +12,14 @@ use Rattle.ntfe_model.specs.Points.{place_of_point}
 use Rattle.ntfe_model.specs.Shapes.{Shape, IsShape}
 use Rattle.ntfe_model.specs.Charts.{patch_at, axes, place, reached, IsOf, IsUnit}
 use Rattle.ntfe_model.proofs.GeometryPoints.{point_within, point_place}
-use Rattle.ntfe_model.proofs.PlaneNumbers.{sign_positive}
+use Rattle.ntfe_model.proofs.PlaneNumbers.{cancel_other, sign_positive}
 use Rattle.ntfe_model.proofs.UnitTriples.{area_of}
-use Rattle.star_builder.proofs.FourWeights.{IsMixOf, cancel_other}
-use Rattle.star_builder.proofs.FacePlanes.{first_of, second_of, area_wedge, coordinate_mix, wedge_weight, wedge_sum, plane_mix}
+use Rattle.star_builder.proofs.FourWeights.{IsMixOf}
+use Rattle.star_builder.proofs.FacePlanes.{rotated, first_of, second_of, area_wedge, coordinate_mix, wedge_weight, wedge_sum, plane_mix}
 use Rattle.star_builder.proofs.FaceSimplices.{IsBelowFace}
 use Rattle.star_builder.proofs.MixedPoints.{mixed_point}
-use Rattle.star_builder.proofs.Planar.{wedge, wedge_turn, wedge_outer, wedge_last, not_both}
-use Rattle.ntfe_nums.proofs.Signs.{negative_or, same_or}
+use Rattle.star_builder.proofs.Planar.{wedge, wedge_turn, wedge_outer, wedge_last}
+use Rattle.ntfe_nums.proofs.Signs.{negative_or, same_or, positive_some, zero_minus}
 use Rattle.star_builder.proofs.UsedPoints.{IsUsed, three_weights, used_below}
 
 -- ---- fractions
@@ -53,18 +53,15 @@ parted (pos m) (negsuc n) l = by (parted_nat m n (omega (arith, ints, l)))
       is = turned (p.quotient *ℤ pos m) p.rest p.is ∙ ring (p.quotient ∷ pos m ∷ p.rest ∷ [])
           (minus (minus (minus (num (pos 0)) (times (var 0) (var 1))) (var 2)) (num (pos 1)))
           (plus (times (minus (minus (num (pos 0)) (var 0)) (num (pos 1))) (var 1)) (minus (minus (var 1) (num (pos 1))) (var 2))) refl
-          ∙ (λ i. (zero_less p.quotient i -ℤ pos 1) *ℤ pos m +ℤ (pos m -ℤ pos 1 -ℤ p.rest));
+          ∙ (λ i. (zero_minus p.quotient i -ℤ pos 1) *ℤ pos m +ℤ (pos m -ℤ pos 1 -ℤ p.rest));
       low = (let h = p.high in omega (arith, ints, h));
       high = (let h = p.low in omega (arith, ints, h));
     }
       where
-        zero_less : (z : ℤ) → pos 0 -ℤ z ≡ neg_ℤ z
-        zero_less z = omega (arith, ints)
-
         turned : (x r : ℤ) → pos n ≡ x +ℤ r → negsuc n ≡ pos 0 -ℤ x -ℤ r -ℤ pos 1
         turned x r e = omega (arith, ints, e)
 
--- ---- mixtures in one coordinate
+-- ---- combinations in one coordinate
 
 -- without whole multiples of the sides
 fraction_number : (k x y z s t p a b c l2 l3 o : ℤ) → k *ℤ p ≡ x *ℤ a +ℤ (y *ℤ b +ℤ (z *ℤ c +ℤ pos 0 *ℤ o)) → k ≡ x +ℤ (y +ℤ z) → y ≡ s *ℤ k +ℤ l2 → z ≡ t *ℤ k +ℤ l3
@@ -118,7 +115,7 @@ module _ (g : Shape) (s : IsShape g) (f : ℕ) (within : f < length g.faces) (v 
   oc = lower.points.2
 
   flat : wedged a b c ≢ pos 0
-  flat e = not_both (wedged a b c) lower.left e
+  flat e = positive_some (wedged a b c) lower.left e
 
   pub empty_triple : (p : ℕ) → On p → pos 0 ≤ℤ wedge (first_of g s f within v) (second_of g s f within v) v b c p → pos 0 ≤ℤ wedge (first_of g s f within v) (second_of g s f within v) v c a p
       → pos 0 ≤ℤ wedge (first_of g s f within v) (second_of g s f within v) v a b p → (p ≡ a) ⊎ ((p ≡ b) ⊎ (p ≡ c))
@@ -133,7 +130,7 @@ module _ (g : Shape) (s : IsShape g) (f : ℕ) (within : f < length g.faces) (v 
           clash : (x y1 y2 y3 : ℤ) → pos 0 <ℤ (x -ℤ (y1 +ℤ y2 +ℤ y3)) → pos 0 ≤ℤ ((y1 +ℤ (y2 +ℤ y3)) -ℤ x) → ⊥
           clash x y1 y2 y3 i j = absurd (omega (arith, ints, i, j))
 
-  -- the wedges of a mixture are its weights
+  -- the wedges of a combination are its weights
   module _ (l1 l2 l3 : ℤ) (size_is : wedged a b c ≡ l1 +ℤ (l2 +ℤ l3)) (p : ℕ) (mix : IsMixOf (three_weights (wedged a b c) l1 l2 l3) (spot a) (spot b) (spot c) (spot a) (spot p)) where
     abbrev X : ℕ → ℤ
     X = first_of g s f within v
@@ -148,9 +145,6 @@ module _ (g : Shape) (s : IsShape g) (f : ℕ) (within : f < length g.faces) (v 
       where
         without_fourth : (x y z u : ℤ) → x +ℤ (y +ℤ (z +ℤ pos 0 *ℤ u)) ≡ x +ℤ (y +ℤ z)
         without_fourth x y z u = omega (arith, ints)
-
-    rotated : (k x y z : ℤ) → k ≡ x +ℤ (y +ℤ z) → k ≡ y +ℤ (z +ℤ x)
-    rotated k x y z e = omega (arith, ints, e)
 
     same : (w l : ℤ) → wedged a b c *ℤ w ≡ l *ℤ wedged a b c → w ≡ l
     same w l e = cancel_other w l (wedged a b c) flat (ring (w ∷ wedged a b c ∷ []) (times (var 0) (var 1)) (times (var 1) (var 0)) refl ∙ e)

@@ -1,8 +1,9 @@
 -- The triples of a two-face that lie below all its other points are those that low simplices leave there.
 --     never_level      no four points of the two-face are level at generic heights
+--     rise_of_lift, lift_of_rise      a point of the two-face rises above four points where it is lifted above three of them
 --     low_lower      three points of a low simplex lie below all others of the two-face
 --     lower_low      three points below all others of the two-face are part of a low simplex
-use Rattle.std.proofs.Common.{◌≡◌, ◌≢◌, ℕ, ◌<◌, inl, inr, ⊎_elim, refl, sym, ap, ◌∙◌, subst, arith, ℤ, pos, negsuc, ◌+ℤ◌, ◌-ℤ◌, ◌*ℤ◌, ◌<ℤ◌, ◌≤ℤ◌, neg_ℤ, [], ◌∷◌, length}
+use Rattle.std.proofs.Common.{◌≡◌, ◌≢◌, ℕ, ◌<◌, ⊎_elim, refl, sym, ap, ◌∙◌, subst, arith, ℤ, pos, negsuc, ◌+ℤ◌, ◌-ℤ◌, ◌*ℤ◌, ◌<ℤ◌, ◌≤ℤ◌, neg_ℤ, [], ◌∷◌, length}
 use Rattle.std.specs.Prelude.{Contains}
 use Rattle.std.proofs.lemmas.Int.{ints}
 use Rattle.ntfe_nums.specs.Vectors.{Vector, dot, difference, multiple}
@@ -15,17 +16,15 @@ use Rattle.ntfe_model.specs.Points.{place_of_point}
 use Rattle.ntfe_model.specs.Shapes.{Shape, IsShape, face_at}
 use Rattle.ntfe_model.specs.Charts.{patch_at, IsOf}
 use Rattle.ntfe_model.proofs.GeometryPoints.{point_within}
-use Rattle.ntfe_model.proofs.PlaneNumbers.{positive_factor, zero_factor}
-use Rattle.ntfe_model.proofs.Triples.{Decided}
-use Rattle.star_builder.proofs.FourWeights.{dot_mix, cancel_other}
+use Rattle.ntfe_model.proofs.PlaneNumbers.{cancel_other, positive_factor, zero_factor}
+use Rattle.star_builder.proofs.FourWeights.{dot_mix}
 use Rattle.star_builder.proofs.FacePlanes.{first_of, second_of, plane_weights, wedge_sum, outside_apart, plane_mix, plane_volume, plane_rise}
-use Rattle.star_builder.proofs.FacetMembers.{lifted_over}
-use Rattle.star_builder.proofs.FacetPoints.{decide_equal}
-use Rattle.star_builder.proofs.LeastSlope.{IsOutside, some_outside, distance, outside_far, face_point_tight, tight_face_point}
+use Rattle.star_builder.proofs.FacetMembers.{lifted_along}
+use Rattle.star_builder.proofs.FacePoints.{facet_below, number_second, IsOutside, some_outside, distance, outside_far, face_point_tight, tight_face_point}
 use Rattle.star_builder.proofs.LowSimplices.{IsLow, IsGeneric}
-use Rattle.star_builder.proofs.Planar.{wedge, lift, IsLower, AreNeverLevel, lower_over, not_both}
+use Rattle.star_builder.proofs.Planar.{wedge, lift, IsLower, AreNeverLevel, lower_over}
 use Rattle.star_builder.proofs.Rises.{gap, gap_multiple, gap_tilt, rise, rise_gap, rise_first, rise_second, rise_third, through, volume}
-use Rattle.ntfe_nums.proofs.Signs.{factor_not_negative, product_not_negative, square_not_negative, square_positive, zero_out, positive_product}
+use Rattle.ntfe_nums.proofs.Signs.{factor_not_negative, product_not_negative, square_not_negative, square_positive, zero_out, positive_product, product_exchanged, not_negative, positive_some}
 use Rattle.star_builder.proofs.Supports.{tight_points, tight_number, tight_on, in_tight, low_support}
 use Rattle.star_builder.proofs.Tilts.{IsTiltedAlong, tilt_along}
 
@@ -68,7 +67,7 @@ module _ (g : Shape) (s : IsShape g) (f : ℕ) (within : f < length g.faces) (v 
       (dot_mix m (plane_weights g s f within v a b c p) (spot a) (spot b) (spot c) (spot p) (spot p) (plane_mix g s f within v a b c oa ob oc flat p op (spot p))
       ∙ (λ i. wedge X Y v b c p *ℤ ta i +ℤ (wedge X Y v c a p *ℤ tb i +ℤ (wedge X Y v a b p *ℤ tc i +ℤ pos 0 *ℤ dot m (spot p)))))
 
-  outside_face : (d : ℕ) → IsOutside g s f within d → (p : ℕ) → On p → p ≢ d
+  pub outside_face : (d : ℕ) → IsOutside g s f within d → (p : ℕ) → On p → p ≢ d
   outside_face d out p op e = out.2 (ap (λ k. dot second (spot k)) (sym e) ∙ (face_point_tight g s f within p op).1)
 
   -- the rise above a simplex, as a lift in the plane
@@ -79,6 +78,31 @@ module _ (g : Shape) (s : IsShape g) (f : ℕ) (within : f < length g.faces) (v 
       ring (wedge X Y v a b c ∷ V ∷ rise spot v a b c d p ∷ []) (times (var 0) (times (var 1) (var 2))) (times (var 1) (times (var 0) (var 2))) refl
       ∙ ap (λ z. V *ℤ z) (plane_rise g s f within v a b c oa ob oc flat p op d)
       ∙ ring (V ∷ lift X Y v a b c p ∷ []) (times (var 0) (times (var 0) (var 1))) (times (times (var 0) (var 0)) (var 1)) refl
+
+  -- so they have one sign
+  module _ (a b c d p : ℕ) (oa : On a) (ob : On b) (oc : On c) (op : On p) (left : pos 0 <ℤ wedge X Y v a b c) (independent : volume spot v a b c d ≢ pos 0) where
+    abbrev size : ℤ
+    size = volume spot v a b c d
+
+    not_flat : wedge X Y v a b c ≢ pos 0
+    not_flat e = positive_some (wedge X Y v a b c) left e
+
+    pub rise_of_lift : pos 0 <ℤ lift X Y v a b c p → pos 0 <ℤ (volume spot v a b c d *ℤ rise spot v a b c d p)
+    rise_of_lift l =
+        positive_factor (size *ℤ rise spot v a b c d p) (wedge X Y v a b c) left
+        (subst (λ z. pos 0 <ℤ z) (sym (signed_lift a b c d p oa ob oc not_flat op) ∙ product_exchanged (wedge X Y v a b c) (size *ℤ rise spot v a b c d p))
+        (positive_product (size *ℤ size) (lift X Y v a b c p) (square_positive size independent) l))
+
+    pub lift_of_rise : pos 0 <ℤ (volume spot v a b c d *ℤ rise spot v a b c d p) → pos 0 <ℤ lift X Y v a b c p
+    lift_of_rise l =
+        positive_factor (lift X Y v a b c p) (size *ℤ size) (square_positive size independent)
+        (subst (λ z. pos 0 <ℤ z) (signed_lift a b c d p oa ob oc not_flat op ∙ product_exchanged (size *ℤ size) (lift X Y v a b c p))
+        (positive_product (wedge X Y v a b c) (size *ℤ rise spot v a b c d p) left l))
+
+    pub lift_least : pos 0 ≤ℤ (volume spot v a b c d *ℤ rise spot v a b c d p) → pos 0 ≤ℤ lift X Y v a b c p
+    lift_least l =
+        factor_not_negative (size *ℤ size) (lift X Y v a b c p) (square_positive size independent)
+        (subst (λ z. pos 0 ≤ℤ z) (signed_lift a b c d p oa ob oc not_flat op) (product_not_negative (wedge X Y v a b c) (size *ℤ rise spot v a b c d p) (not_negative (wedge X Y v a b c) left) l))
 
   module _ (generic : IsGeneric g.points v) where
     pub never_level : AreNeverLevel (first_of g s f within v) (second_of g s f within v) v (IsOf (patch_at g f))
@@ -98,22 +122,19 @@ module _ (g : Shape) (s : IsShape g) (f : ℕ) (within : f < length g.faces) (v 
   low_lower m a b c d low oa ob oc left = record { points = (oa, ob, oc); left = left; above = above }
     where
       flat : wedge X Y v a b c ≢ pos 0
-      flat e = not_both (wedge X Y v a b c) left e
+      flat e = positive_some (wedge X Y v a b c) left e
 
       above : (p : ℕ) → On p → p ≢ a → p ≢ b → p ≢ c → pos 0 <ℤ lift X Y v a b c p
       above p op pa pb pc =
-          positive_factor (lift X Y v a b c p) (volume spot v a b c d *ℤ volume spot v a b c d) (square_positive (volume spot v a b c d) low.independent)
-          (subst (λ z. pos 0 <ℤ z)
-          (signed_lift a b c d p oa ob oc flat op ∙ ring (volume spot v a b c d ∷ lift X Y v a b c p ∷ []) (times (times (var 0) (var 0)) (var 1)) (times (var 1) (times (var 0) (var 0))) refl)
-          (positive_product (wedge X Y v a b c) (volume spot v a b c d *ℤ rise spot v a b c d p) left
+          lift_of_rise a b c d p oa ob oc op left low.independent
           (low.above p (point_within g s f within p op) pa pb pc (λ e. low.independent (ap (volume spot v a b c) (sym e) ∙ plane_volume g s f within v a b c oa ob oc flat p op d))
-          (plane_tight m a b c oa ob oc flat low.tight.0 low.tight.1 low.tight.2 p op))))
+          (plane_tight m a b c oa ob oc flat low.tight.0 low.tight.1 low.tight.2 p op))
 
   -- ---- three points below the face are part of a low simplex
 
   module _ (generic : IsGeneric g.points v) (a b c : ℕ) (lower : IsBelowFace a b c) where
     flat : wedge X Y v a b c ≢ pos 0
-    flat e = not_both (wedge X Y v a b c) lower.left e
+    flat e = positive_some (wedge X Y v a b c) lower.left e
 
     base : ℕ
     base = (some_outside g s f within).0
@@ -158,8 +179,17 @@ module _ (g : Shape) (s : IsShape g) (f : ℕ) (within : f < length g.faces) (v 
         (product_not_negative (V *ℤ V) (lift X Y v a b c x) (square_not_negative V) (lower_over X Y v (IsOf (patch_at g f)) a b c lower x o))))
 
     -- a multiple of the depth that lifts all points of the facet above the three
-    abbrev factor : (k : ℤ) × (pos 0 ≤ℤ k) × ((x : ℕ) → Contains (tight_points first g.points) x → pos 0 ≤ℤ (height_over x +ℤ k))
-    factor = lifted_over height_over (tight_points first g.points)
+    factor : (k : ℤ) × (pos 0 ≤ℤ k) × ((x : ℕ) → Contains (tight_points first g.points) x → pos 0 ≤ℤ (height_over x +ℤ k *ℤ depth x))
+    factor =
+        lifted_along height_over depth (tight_points first g.points)
+        (λ x h. over (dot second (spot x)) (dot first (spot x)) (depth x) (depth_is x) (facet_below g s f within (face_at g f).second (number_second g s f within) x (tight_number first g.points x h)) (tight_on first g.points x h))
+        (λ x h e. height_on x (tight_face_point g s f within x (tight_number first g.points x h) (tight_on first g.points x h) (level (dot second (spot x)) (dot first (spot x)) (sym (depth_is x) ∙ e) (tight_on first g.points x h))))
+      where
+        over : (y z d : ℤ) → d ≡ y -ℤ z → negsuc 0 ≤ℤ y → z ≡ negsuc 0 → pos 0 ≤ℤ d
+        over y z d e l q = omega (arith, ints, e, l, q)
+
+        level : (y z : ℤ) → y -ℤ z ≡ pos 0 → z ≡ negsuc 0 → y ≡ negsuc 0
+        level y z e q = omega (arith, ints, e, q)
 
     abbrev start_size : ℤ
     start_size = pos 1 *ℤ (V *ℤ V) -ℤ neg_ℤ factor.0 *ℤ pos 0
@@ -173,32 +203,10 @@ module _ (g : Shape) (s : IsShape g) (f : ℕ) (within : f < length g.faces) (v 
         ∙ gap_tilt spot v (pos 1) (V *ℤ V) (neg_ℤ factor.0) (pos 0) (multiple V (through spot v a b c base)) (difference first second) x
 
     start_under : (x : ℕ) → Contains (tight_points first g.points) x → pos 0 ≤ℤ gap spot v start_size start_form x
-    start_under x h = subst (λ z. pos 0 ≤ℤ z) (start_is x) (by (decide_equal (dot second (spot x)) (negsuc 0)))
-      where
-        flat_sum : (y k z : ℤ) → pos 0 ≤ℤ y → z ≡ pos 0 → pos 0 ≤ℤ (y +ℤ k *ℤ z)
-        flat_sum y k z l e = subst (λ u. pos 0 ≤ℤ (y +ℤ k *ℤ u)) (sym e) (zero y (k *ℤ pos 0) (omega (arith, ints)) l)
-          where
-            zero : (y z : ℤ) → z ≡ pos 0 → pos 0 ≤ℤ y → pos 0 ≤ℤ (y +ℤ z)
-            zero y z e l = omega (arith, ints, e, l)
-
-        deep_sum : (y k z : ℤ) → pos 0 ≤ℤ k → pos 0 <ℤ z → pos 0 ≤ℤ (y +ℤ k) → pos 0 ≤ℤ (y +ℤ k *ℤ z)
-        deep_sum y k z i j l =
-            sum y k (k *ℤ (z -ℤ pos 1)) (k *ℤ z) l (product_not_negative k (z -ℤ pos 1) i (omega (arith, ints, j)))
-            (ring (k ∷ z ∷ []) (times (var 0) (var 1)) (plus (var 0) (times (var 0) (minus (var 1) (num (pos 1))))) refl)
-          where
-            sum : (y k r t : ℤ) → pos 0 ≤ℤ (y +ℤ k) → pos 0 ≤ℤ r → t ≡ k +ℤ r → pos 0 ≤ℤ (y +ℤ t)
-            sum y k r t l i e = omega (arith, ints, l, i, e)
-
-        by : Decided (dot second (spot x) ≡ negsuc 0) → pos 0 ≤ℤ (height_over x +ℤ factor.0 *ℤ depth x)
-        by (inl e) =
-            let o = tight_face_point g s f within x (tight_number first g.points x h) (tight_on first g.points x h) e in
-            flat_sum (height_over x) factor.0 (depth x) (height_on x o) (depth_none x o)
-        by (inr n) =
-            deep_sum (height_over x) factor.0 (depth x) factor.1
-            (subst (λ z. pos 0 <ℤ z) (sym (depth_is x)) (outside_far g s f within x (tight_number first g.points x h, tight_on first g.points x h, n))) (factor.2 x h)
+    start_under x h = subst (λ z. pos 0 ≤ℤ z) (start_is x) (factor.2 x h)
 
     base_deep : depth base ≢ pos 0
-    base_deep e = not_both (distance g s f within (spot base)) (outside_far g s f within base base_outside) (sym (depth_is base) ∙ e)
+    base_deep e = positive_some (distance g s f within (spot base)) (outside_far g s f within base base_outside) (sym (depth_is base) ∙ e)
 
     start_touches : (x : ℕ) → On x → rise spot v a b c base x ≡ pos 0 → gap spot v start_size start_form x ≡ pos 0
     start_touches x o e =

@@ -4,29 +4,28 @@
 --     some_left      some point lies to the left of a step
 --     step_triple      a lower triple at a step
 --     lower_step      a side of a lower triple without one on the other side is a step
-use Rattle.std.proofs.Common.{◌≡◌, ◌≢◌, ℕ, zero, suc, ◌+◌, ◌-◌, ◌<◌, inl, inr, ⊎_elim, refl, sym, ap, ◌∙◌, subst, arith, ℤ, pos, negsuc, ◌+ℤ◌, ◌-ℤ◌, ◌*ℤ◌, ◌<ℤ◌, ◌≤ℤ◌, neg_ℤ, List, [], ◌∷◌, length}
+use Rattle.std.proofs.Common.{◌≡◌, ◌≢◌, ℕ, zero, suc, ◌+◌, ◌-◌, ◌<◌, ⊎_elim, refl, sym, ap, ◌∙◌, subst, arith, ℤ, pos, negsuc, ◌+ℤ◌, ◌-ℤ◌, ◌*ℤ◌, ◌<ℤ◌, ◌≤ℤ◌, neg_ℤ, List, [], ◌∷◌, length}
 use Rattle.std.specs.Prelude.{Contains, slice_index_or}
 use Rattle.std.proofs.lemmas.Int.{ints}
 use Rattle.ntfe_nums.specs.Vectors.{Vector, numbers, coordinate, vector_sum, multiple, sign}
-use Rattle.ntfe_nums.proofs.Ring.{ring}
+use Rattle.ntfe_nums.proofs.Ring.{ring, one_product}
 use Rattle.ntfe_nums.proofs.Ring.Expression.{var, num, plus, minus, times}
 use Rattle.ntfe_model.specs.Points.{place_of_point}
 use Rattle.ntfe_model.specs.Shapes.{Shape, IsShape}
 use Rattle.ntfe_model.specs.Charts.{patch_at, place, turn, spot_numbers, IsOf, IsOnSegment, IsStep}
 use Rattle.ntfe_model.proofs.GeometryPoints.{point_within, point_place}
-use Rattle.ntfe_model.proofs.Listings.{Contains-here, Contains-there, Contains-cases, Contains-none}
-use Rattle.ntfe_model.proofs.PlaneNumbers.{sign_negative}
+use Rattle.ntfe_model.proofs.PlaneNumbers.{cancel_other, sign_negative}
 use Rattle.ntfe_model.proofs.Triples.{Decided, decide_listed}
 use Rattle.ntfe_model.proofs.UnitTriples.{area_of}
-use Rattle.star_builder.proofs.FourWeights.{IsMixOf, mixed_sum, cancel_other}
+use Rattle.star_builder.proofs.FourWeights.{IsMixOf, mixed_sum}
 use Rattle.star_builder.proofs.EmptyTriples.{empty_triple}
 use Rattle.star_builder.proofs.FaceLevels.{face_apart}
 use Rattle.star_builder.proofs.FacePlanes.{first_of, second_of, area_wedge, wedge_sum, plane_mix}
 use Rattle.star_builder.proofs.FaceSimplices.{IsBelowFace, never_level}
 use Rattle.star_builder.proofs.Inducing.{area_exists}
 use Rattle.star_builder.proofs.LowSimplices.{IsGeneric}
-use Rattle.star_builder.proofs.Planar.{wedge, lift, wedge_turn, wedge_swap, wedge_outer, wedge_last, left_apart, step_lower, reverse_lower, not_both}
-use Rattle.ntfe_nums.proofs.Signs.{above_zero, factor_not_negative, negative_or, product_not_negative, zero_or, not_negative}
+use Rattle.star_builder.proofs.Planar.{wedge, lift, wedge_turn, wedge_swap, wedge_outer, wedge_last, left_apart, step_lower, reverse_lower}
+use Rattle.ntfe_nums.proofs.Signs.{above_zero, factor_not_negative, negative_or, product_not_negative, zero_or, not_negative, positive_some, zero_not_negative, sum_not_negative}
 use Rattle.star_builder.proofs.UsedPoints.{IsUsed, three_weights, used_below}
 
 -- ---- points between two others
@@ -45,17 +44,14 @@ coordinate_two i k l1 l2 a b p e = at_place (i - 1)
     at_place (suc (suc (suc zero))) = ap (λ v. v.x4) e
     at_place (suc (suc (suc (suc j)))) = zeros k l1 l2
 
--- a coordinate of two mixtures that are one
+-- a coordinate of two combinations that are one
 pub coordinate_meet : (i : ℕ) (k1 k2 l1 l2 : ℤ) (c d a b : Vector) → vector_sum (multiple k1 c) (multiple k2 d) ≡ vector_sum (multiple l1 a) (multiple l2 b)
     → k1 *ℤ coordinate i c +ℤ k2 *ℤ coordinate i d ≡ l1 *ℤ coordinate i a +ℤ l2 *ℤ coordinate i b
 coordinate_meet i k1 k2 l1 l2 c d a b e = single (coordinate_two i (pos 1) k1 k2 c d (vector_sum (multiple k1 c) (multiple k2 d)) (times_one (vector_sum (multiple k1 c) (multiple k2 d))))
     (coordinate_two i (pos 1) l1 l2 a b (vector_sum (multiple k1 c) (multiple k2 d)) (times_one (vector_sum (multiple k1 c) (multiple k2 d)) ∙ e))
   where
-    number : (x : ℤ) → pos 1 *ℤ x ≡ x
-    number x = omega (arith, ints)
-
     times_one : (u : Vector) → multiple (pos 1) u ≡ u
-    times_one u = λ i. record { x1 = number u.x1 i; x2 = number u.x2 i; x3 = number u.x3 i; x4 = number u.x4 i }
+    times_one u = λ i. record { x1 = one_product u.x1 i; x2 = one_product u.x2 i; x3 = one_product u.x3 i; x4 = one_product u.x4 i }
 
     single : {x y z : ℤ} → x ≡ y → x ≡ z → y ≡ z
     single p q = sym p ∙ q
@@ -93,13 +89,13 @@ module _ (g : Shape) (s : IsShape g) (f : ℕ) (within : f < length g.faces) (v 
 
   pub no_between : (a b c : ℕ) → IsBelowFace g s f within v a b c → (p : ℕ) → IsOf (patch_at g f) p → p ≢ a → p ≢ b → ¬ (IsOnSegment (place (patch_at g f) a) (place (patch_at g f) b) (place (patch_at g f) p))
   no_between a b c l p op pa pb seg =
-      ⊎_elim pa (λ q. ⊎_elim pb (λ e. not_both (wedge X Y v a b c) l.left (ap (wedge X Y v a b) (sym e) ∙ level)) q)
+      ⊎_elim pa (λ q. ⊎_elim pb (λ e. positive_some (wedge X Y v a b c) l.left (ap (wedge X Y v a b) (sym e) ∙ level)) q)
       (empty_triple g s f within v used a b c l p op
       (part (wedge X Y v b c p) (pos seg.n -ℤ pos seg.s) (wedge X Y v a b c) (pos seg.s) (pos 0) (between b c) first_low (not_negative (wedge X Y v a b c) l.left) (omega (arith, ints)) (omega (arith, ints))
       (wedge_turn X Y v a b c) (wedge_outer X Y v b c))
       (part (wedge X Y v c a p) (pos seg.n -ℤ pos seg.s) (pos 0) (pos seg.s) (wedge X Y v a b c) (between c a) first_low (omega (arith, ints)) (omega (arith, ints)) (not_negative (wedge X Y v a b c) l.left)
       (wedge_last X Y v c a) (sym (wedge_turn X Y v c a b) ∙ refl))
-      (zero (wedge X Y v a b p) level))
+      (zero_not_negative (wedge X Y v a b p) level))
     where
       mix : multiple (pos seg.n) (spot p) ≡ vector_sum (multiple (pos seg.n -ℤ pos seg.s) (spot a)) (multiple (pos seg.s) (spot b))
       mix =
@@ -120,20 +116,14 @@ module _ (g : Shape) (s : IsShape g) (f : ℕ) (within : f < length g.faces) (v 
           wedge_two (pos seg.n) (pos seg.n -ℤ pos seg.s) (pos seg.s) (X i) (Y i) (X j) (Y j) (X a) (Y a) (X b) (Y b) (X p) (Y p) (size (pos seg.n) (pos seg.s))
           (coordinate_two _ (pos seg.n) (pos seg.n -ℤ pos seg.s) (pos seg.s) (spot a) (spot b) (spot p) mix) (coordinate_two _ (pos seg.n) (pos seg.n -ℤ pos seg.s) (pos seg.s) (spot a) (spot b) (spot p) mix)
 
-      zero : (z : ℤ) → z ≡ pos 0 → pos 0 ≤ℤ z
-      zero z e = omega (arith, ints, e)
-
-      sum_over : (y z : ℤ) → pos 0 ≤ℤ y → pos 0 ≤ℤ z → pos 0 ≤ℤ (y +ℤ z)
-      sum_over y z h k = omega (arith, ints, h, k)
-
       part : (w l1 w1 l2 w2 : ℤ) {u1 u2 : ℤ} → pos seg.n *ℤ w ≡ l1 *ℤ u1 +ℤ l2 *ℤ u2 → pos 0 ≤ℤ l1 → pos 0 ≤ℤ w1 → pos 0 ≤ℤ l2 → pos 0 ≤ℤ w2 → u1 ≡ w1 → u2 ≡ w2 → pos 0 ≤ℤ w
       part w l1 w1 l2 w2 e h1 k1 h2 k2 i1 i2 =
           factor_not_negative (pos seg.n) w positive
-          (subst (λ z. pos 0 ≤ℤ z) ((λ i. l1 *ℤ sym i1 i +ℤ l2 *ℤ sym i2 i) ∙ sym e) (sum_over (l1 *ℤ w1) (l2 *ℤ w2) (product_not_negative l1 w1 h1 k1) (product_not_negative l2 w2 h2 k2)))
+          (subst (λ z. pos 0 ≤ℤ z) ((λ i. l1 *ℤ sym i1 i +ℤ l2 *ℤ sym i2 i) ∙ sym e) (sum_not_negative (l1 *ℤ w1) (l2 *ℤ w2) (product_not_negative l1 w1 h1 k1) (product_not_negative l2 w2 h2 k2)))
 
       level : wedge X Y v a b p ≡ pos 0
       level =
-          cancel_other (wedge X Y v a b p) (pos 0) (pos seg.n) (λ e. not_both (pos seg.n) positive e)
+          cancel_other (wedge X Y v a b p) (pos 0) (pos seg.n) (λ e. positive_some (pos seg.n) positive e)
           (ring (wedge X Y v a b p ∷ pos seg.n ∷ []) (times (var 0) (var 1)) (times (var 1) (var 0)) refl ∙ between a b
           ∙ (λ i. (pos seg.n -ℤ pos seg.s) *ℤ wedge_outer X Y v a b i +ℤ pos seg.s *ℤ wedge_last X Y v a b i) ∙ none (pos seg.n -ℤ pos seg.s) (pos seg.s) (pos seg.n))
         where
@@ -156,7 +146,7 @@ module _ (g : Shape) (s : IsShape g) (f : ℕ) (within : f < length g.faces) (v 
     l3 = wedge X Y v a b p
 
     flat : k ≢ pos 0
-    flat e = not_both k left e
+    flat e = positive_some k left e
 
     mix : IsMixOf (three_weights k l1 l2 l3) (spot a) (spot b) (spot c) (spot c) (spot p)
     mix = plane_mix g s f within v a b c oa ob oc flat p op (spot c)
@@ -342,7 +332,7 @@ module _ (g : Shape) (s : IsShape g) (f : ℕ) (within : f < length g.faces) (v 
         line : (c p : ℕ) → On c → pos 0 <ℤ wedge X Y v a b c → On p → p ≢ a → p ≢ b → wedge X Y v a b p ≡ pos 0 → pos 0 <ℤ lift X Y v a b c p
         line c p oc left op pa pb level =
             above_zero (lift X Y v a b c p) (line_over a b c p step.points.0 step.points.1 oc op left pa pb level (step.next p op pa pb))
-            (never_level g s f within v generic a b c p step.points.0 step.points.1 oc op (λ e. not_both (wedge X Y v a b c) left e) pa pb (λ e. not_both (wedge X Y v a b c) left (ap (wedge X Y v a b) (sym e) ∙ level)))
+            (never_level g s f within v generic a b c p step.points.0 step.points.1 oc op (λ e. positive_some (wedge X Y v a b c) left e) pa pb (λ e. positive_some (wedge X Y v a b c) left (ap (wedge X Y v a b) (sym e) ∙ level)))
 
     pub lower_step : (a b c : ℕ) → IsBelowFace g s f within v a b c → ((d : ℕ) → ¬ (IsBelowFace g s f within v b a d)) → IsStep (patch_at g f) a b
     lower_step a b c l alone = record {

@@ -1,4 +1,5 @@
 -- Each facet has a low simplex: a form far below its points is tilted until it touches four independent points.
+--     lifted_over, lifted_along      a number, or a multiple of a depth, that lifts the values of a function on a list above 0
 --     four_low      four independent points of the facet are enough
 use Rattle.std.proofs.Common.{◌≡◌, ◌≢◌, ℕ, ⊎_elim, refl, sym, ◌∙◌, subst, arith, ℤ, pos, negsuc, ◌+ℤ◌, ◌-ℤ◌, ◌*ℤ◌, ◌<ℤ◌, ◌≤ℤ◌, List, [], ◌∷◌, unsigned_abs}
 use Rattle.std.specs.Prelude.{Contains}
@@ -12,7 +13,7 @@ use Rattle.ntfe_model.specs.Reflexive.{IsTight}
 use Rattle.ntfe_model.specs.declared.point.Point.{Point}
 use Rattle.ntfe_model.proofs.Listings.{Contains-cases, Contains-none}
 use Rattle.ntfe_nums.proofs.Exchanges.{swap_first, swap_middle, swap_last, same_first, same_second, same_third}
-use Rattle.ntfe_nums.proofs.Signs.{positive_product}
+use Rattle.ntfe_nums.proofs.Signs.{above_zero, positive_product, product_not_negative, zero_or, zero_out}
 use Rattle.star_builder.proofs.LowSimplices.{IsLow, IsGeneric, turned_not_zero}
 use Rattle.star_builder.proofs.Rises.{gap, volume}
 use Rattle.star_builder.proofs.Supports.{tight_points, tight_on, low_support}
@@ -33,6 +34,27 @@ lifted_over {A} f (y ∷ ys) =
 
     there : (x k z : ℤ) → pos 0 ≤ℤ (x +ℤ k) → pos 0 ≤ℤ (x +ℤ (k +ℤ pos (unsigned_abs z)))
     there x k z l = omega (arith, ints, l)
+
+-- a multiple of a depth that does so, where the function is not negative at depth 0
+pub lifted_along : {A : Type 0} (f depth : A → ℤ) (xs : List A) → ((x : A) → Contains xs x → pos 0 ≤ℤ depth x) → ((x : A) → Contains xs x → depth x ≡ pos 0 → pos 0 ≤ℤ f x)
+    → (k : ℤ) × (pos 0 ≤ℤ k) × ((x : A) → Contains xs x → pos 0 ≤ℤ (f x +ℤ k *ℤ depth x))
+lifted_along f depth xs over level =
+    let r = lifted_over f xs in
+    (r.0, r.1, λ x c. ⊎_elim (λ e. flat (f x) r.0 (depth x) (level x c e) e) (λ n. deep (f x) r.0 (depth x) r.1 (above_zero (depth x) (over x c) n) (r.2 x c)) (zero_or (depth x)))
+  where
+    flat : (y k z : ℤ) → pos 0 ≤ℤ y → z ≡ pos 0 → pos 0 ≤ℤ (y +ℤ k *ℤ z)
+    flat y k z l e = by (k *ℤ z) (zero_out k z e)
+      where
+        by : (q : ℤ) → q ≡ pos 0 → pos 0 ≤ℤ (y +ℤ q)
+        by q f = omega (arith, ints, l, f)
+
+    deep : (y k z : ℤ) → pos 0 ≤ℤ k → pos 0 <ℤ z → pos 0 ≤ℤ (y +ℤ k) → pos 0 ≤ℤ (y +ℤ k *ℤ z)
+    deep y k z i j l =
+        by (k *ℤ (z -ℤ pos 1)) (k *ℤ z) (product_not_negative k (z -ℤ pos 1) i (omega (arith, ints, j)))
+        (ring (k ∷ z ∷ []) (times (var 0) (var 1)) (plus (var 0) (times (var 0) (minus (var 1) (num (pos 1))))) refl)
+      where
+        by : (r t : ℤ) → pos 0 ≤ℤ r → t ≡ k +ℤ r → pos 0 ≤ℤ (y +ℤ t)
+        by r t h e = omega (arith, ints, l, h, e)
 
 module _ (xs : List Point) (v : ℕ → ℤ) (generic : IsGeneric xs v) (m : Vector) where
   abbrev at : ℕ → Vector

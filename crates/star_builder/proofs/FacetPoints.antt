@@ -1,24 +1,18 @@
 -- The points of a facet: vertices are points, forms that agree on four independent vectors are equal, and some vertex of a facet lies outside another.
-use Rattle.std.proofs.Common.{◌≡◌, ◌≢◌, ℕ, suc, ◌-◌, ◌<◌, ◌≤◌, inl, inr, ⊎_elim, Bool, true, false, cond, refl, sym, ap, ◌∙◌, arith, ℤ, pos, negsuc, ◌+ℤ◌, ◌-ℤ◌, ◌*ℤ◌, ◌≤ℤ◌, neg_ℤ, List, [], ◌∷◌, length, get_or}
-use Rattle.std.specs.Prelude.{Contains, Any}
-use Rattle.std.specs.List.{range_with_len}
+use Rattle.std.proofs.Common.{◌≡◌, ◌≢◌, ℕ, ◌-◌, ◌<◌, Bool, true, false, cond, refl, sym, ◌∙◌, arith, ℤ, pos, negsuc, ◌-ℤ◌, ◌*ℤ◌, neg_ℤ, List, [], ◌∷◌, length}
+use Rattle.std.specs.Prelude.{Contains}
 use Rattle.std.specs.Ordering.{int_eq}
 use Rattle.std.proofs.lemmas.Int.{ints}
 use Rattle.std.proofs.lemmas.List.Elements.{Contains-get_or}
-use Rattle.std.proofs.lemmas.List.{get_or_default}
 use Rattle.ntfe_nums.specs.Vectors.{Vector, origin, dot, area, det3, det4}
 use Rattle.ntfe_nums.proofs.Ring.{ring}
 use Rattle.ntfe_nums.proofs.Ring.Expression.{var, num, minus, times, neg}
 use Rattle.ntfe_nums.proofs.DetLemmas.{row, dotE, det3E, det4E, of4}
 use Rattle.ntfe_model.specs.Lists.{IsNumberOf}
-use Rattle.ntfe_model.specs.Pairs.{VertexLists, entry}
+use Rattle.ntfe_model.specs.Pairs.{entry}
 use Rattle.ntfe_model.specs.Charts.{Patch, axes, spans}
-use Rattle.ntfe_model.specs.Reflexive.{IsTight, HasNoRepeat, at, IsReflexive}
-use Rattle.ntfe_model.specs.Points.{IsPointOf, ArePoints, facets_through, is_tight, place_of_point, no_point}
-use Rattle.ntfe_model.specs.declared.point.Point.{Point}
-use Rattle.ntfe_model.proofs.Listings.{Contains-cases, Contains-none, Contains-filter, listing_range}
-use Rattle.ntfe_model.proofs.Triples.{Decided}
-use Rattle.star_builder.proofs.FourWeights.{cramer, cramer_weights, dot_mix, cancel_other}
+use Rattle.ntfe_model.specs.Reflexive.{IsTight, HasNoRepeat, at}
+use Rattle.ntfe_model.proofs.Triples.{Decided, decide_integer}
 
 -- ---- whole numbers
 
@@ -28,69 +22,10 @@ int_eq_from x y e = grind (arith, ints)
 pub int_eq_to : (x y : ℤ) → x ≡ y → int_eq x y ≡ true
 int_eq_to x y e = grind (arith, ints)
 
-pub decide_equal : (x y : ℤ) → Decided (x ≡ y)
-decide_equal x y = by (int_eq x y) refl
-  where
-    no : int_eq x y ≡ false → x ≡ y → ⊥
-    no f e = let g : true ≡ false = sym (int_eq_to x y e) ∙ f in cc
-
-    by : (b : Bool) → int_eq x y ≡ b → Decided (x ≡ y)
-    by true e = inl (int_eq_from x y e)
-    by false e = inr (no e)
-
 -- ---- forms
 
 pub dot_swap : (u v : Vector) → dot u v ≡ dot v u
 dot_swap u v = ring (of4 u v v v) (dotE (row 0) (row 4)) (dotE (row 4) (row 0)) refl
-
--- a form that is 0 on four independent vectors is 0
-pub zero_on_four : (u a b c d : Vector) → det4 a b c d ≢ pos 0 → dot u a ≡ pos 0 → dot u b ≡ pos 0 → dot u c ≡ pos 0 → dot u d ≡ pos 0 → (p : Vector) → dot u p ≡ pos 0
-zero_on_four u a b c d n ea eb ec ed p =
-    let m = cramer_weights a b c d p in
-    let e = dot_mix u m a b c d p (cramer a b c d p) ∙ (λ i. m.l1 *ℤ ea i +ℤ (m.l2 *ℤ eb i +ℤ (m.l3 *ℤ ec i +ℤ m.l4 *ℤ ed i))) in
-    cancel_other (dot u p) (pos 0) m.k n (order m.k (dot u p) ∙ e ∙ zeros m.l1 m.l2 m.l3 m.l4 m.k)
-  where
-    order : (k z : ℤ) → z *ℤ k ≡ k *ℤ z
-    order k z = omega (arith, ints)
-
-    zeros : (x y z v k : ℤ) → x *ℤ pos 0 +ℤ (y *ℤ pos 0 +ℤ (z *ℤ pos 0 +ℤ v *ℤ pos 0)) ≡ pos 0 *ℤ k
-    zeros x y z v k = omega (arith, ints)
-
--- forms that agree on four independent vectors agree
-pub same_on_four : (m n a b c d : Vector) → det4 a b c d ≢ pos 0 → dot m a ≡ dot n a → dot m b ≡ dot n b → dot m c ≡ dot n c → dot m d ≡ dot n d → (p : Vector) → dot m p ≡ dot n p
-same_on_four m n a b c d i ea eb ec ed p =
-    let u : Vector = record { x1 = m.x1 -ℤ n.x1; x2 = m.x2 -ℤ n.x2; x3 = m.x3 -ℤ n.x3; x4 = m.x4 -ℤ n.x4 } in
-    let apart : (v : Vector) → dot u v ≡ dot m v -ℤ dot n v = (λ v. ring (of4 m n v v)
-    (dotE (record { x1 = minus (var 0) (var 4); x2 = minus (var 1) (var 5); x3 = minus (var 2) (var 6); x4 = minus (var 3) (var 7) }) (row 8))
-    (minus (dotE (row 0) (row 8)) (dotE (row 4) (row 8))) refl) in
-    equal (dot m p) (dot n p) (sym (apart p) ∙ zero_on_four u a b c d i (apart a ∙ none _ _ ea) (apart b ∙ none _ _ eb) (apart c ∙ none _ _ ec) (apart d ∙ none _ _ ed) p)
-  where
-    none : (x y : ℤ) → x ≡ y → x -ℤ y ≡ pos 0
-    none x y e = omega (arith, ints, e)
-
-    equal : (x y : ℤ) → x -ℤ y ≡ pos 0 → x ≡ y
-    equal x y e = omega (arith, ints, e)
-
--- forms that agree everywhere are equal
-pub same_form : (m n : Vector) → ((p : Vector) → dot m p ≡ dot n p) → m ≡ n
-same_form m n f =
-    let e1 = at1 m ∙ f (record { x1 = pos 1; x2 = pos 0; x3 = pos 0; x4 = pos 0 }) ∙ sym (at1 n) in
-    let e2 = at2 m ∙ f (record { x1 = pos 0; x2 = pos 1; x3 = pos 0; x4 = pos 0 }) ∙ sym (at2 n) in
-    let e3 = at3 m ∙ f (record { x1 = pos 0; x2 = pos 0; x3 = pos 1; x4 = pos 0 }) ∙ sym (at3 n) in
-    let e4 = at4 m ∙ f (record { x1 = pos 0; x2 = pos 0; x3 = pos 0; x4 = pos 1 }) ∙ sym (at4 n) in
-    λ i. record { x1 = e1 i; x2 = e2 i; x3 = e3 i; x4 = e4 i }
-  where
-    at1 : (v : Vector) → v.x1 ≡ dot v (record { x1 = pos 1; x2 = pos 0; x3 = pos 0; x4 = pos 0 })
-    at1 v = omega (arith, ints)
-
-    at2 : (v : Vector) → v.x2 ≡ dot v (record { x1 = pos 0; x2 = pos 1; x3 = pos 0; x4 = pos 0 })
-    at2 v = omega (arith, ints)
-
-    at3 : (v : Vector) → v.x3 ≡ dot v (record { x1 = pos 0; x2 = pos 0; x3 = pos 1; x4 = pos 0 })
-    at3 v = omega (arith, ints)
-
-    at4 : (v : Vector) → v.x4 ≡ dot v (record { x1 = pos 0; x2 = pos 0; x3 = pos 0; x4 = pos 1 })
-    at4 v = omega (arith, ints)
 
 -- ---- three points with an area have a fourth that is independent of them
 
@@ -176,50 +111,3 @@ place_in vs i l = Contains-get_or vs i origin l
 -- different numbers, different entries
 pub entries_apart : (vs : List Vector) → HasNoRepeat vs → (i j : ℕ) → IsNumberOf vs i → IsNumberOf vs j → i < j → entry vs i ≢ entry vs j
 entries_apart vs r i j a b l = r (i - 1) (j - 1) origin (let x = a.0 in let y = b.1 in omega (arith, x, y, l)) (let x = a.0 in let y = b.1 in omega (arith, x, y, l))
-
--- ---- vertices
-
-pub two_members : (ks : List ℕ) (a b : ℕ) → Contains ks a → Contains ks b → a ≢ b → 2 ≤ length ks
-two_members [] a b i j n = Contains-none a i
-two_members (k ∷ []) a b i j n = absurd (n (only a i ∙ sym (only b j)))
-  where
-    only : (c : ℕ) → Contains (k ∷ []) c → c ≡ k
-    only c h = ⊎_elim (λ e. e) (λ d. Contains-none c d) (Contains-cases c k [] h)
-two_members (k ∷ l ∷ ks) a b i j n = omega arith
-
-facet_listed : (ms : List Vector) (v : Vector) (i : ℕ) → i < length ms → dot (at ms i) v ≡ negsuc 0 → Contains (facets_through ms v) (suc i)
-facet_listed ms v i l e =
-    Contains-filter (λ k. is_tight (entry ms k) v) (range_with_len 1 (length ms)) (suc i)
-    ((listing_range 1 (length ms)).complete (suc i) (omega arith, omega (arith, l)))
-    (let same : suc i - 1 ≡ i = omega arith in
-    int_eq_to (dot (entry ms (suc i)) v) (negsuc 0) (ap (λ k. dot (at ms k) v) same ∙ e))
-
--- a vertex is a point
-pub vertex_point : (p : VertexLists) → IsReflexive p → (v : Vector) → Contains p.vertices v → IsPointOf p (record { place = v; facets = facets_through p.dual v })
-vertex_point p r v c =
-    let four = r.corners v c in
-    record {
-      inside = record {
-        box = record { low1 = itself (λ u. u.x1 ≤ℤ v.x1) (self v.x1); high1 = itself (λ u. v.x1 ≤ℤ u.x1) (self v.x1); low2 = itself (λ u. u.x2 ≤ℤ v.x2) (self v.x2); high2 = itself (λ u. v.x2 ≤ℤ u.x2) (self v.x2); low3 = itself (λ u. u.x3 ≤ℤ v.x3) (self v.x3); high3 = itself (λ u. v.x3 ≤ℤ u.x3) (self v.x3); low4 = itself (λ u. u.x4 ≤ℤ v.x4) (self v.x4); high4 = itself (λ u. v.x4 ≤ℤ u.x4) (self v.x4) };
-        hull = λ i d l. r.within (get_or p.dual i d) v (Contains-get_or p.dual i d l) c;
-      };
-      facets = refl;
-      two = two_members (facets_through p.dual v) (suc four.i) (suc four.j)
-          (facet_listed p.dual v four.i (let a = four.rising in omega (arith, a.0, a.1, a.2, a.3)) (dot_swap (at p.dual four.i) v ∙ four.four.first))
-          (facet_listed p.dual v four.j (let a = four.rising in omega (arith, a.1, a.2, a.3)) (dot_swap (at p.dual four.j) v ∙ four.four.second))
-          (λ e. (let a = four.rising in absurd (omega (arith, a.0, e))));
-    }
-  where
-    self : (z : ℤ) → z ≤ℤ z
-    self z = omega (arith, ints)
-
-    itself : (P : Vector → Type 0) → P v → Any P p.vertices
-    itself P h = (c.0, v, c.1, c.2, h)
-
--- with its number
-pub vertex_number : (p : VertexLists) (xs : List Point) → IsReflexive p → ArePoints p xs → (v : Vector) → Contains p.vertices v → (k : ℕ) × IsNumberOf xs k × (place_of_point xs k ≡ v)
-vertex_number p xs r l v c =
-    let x : Point = record { place = v; facets = facets_through p.dual v } in
-    let h = l.complete x (vertex_point p r v c) in
-    let same : suc h.0 - 1 ≡ h.0 = omega arith in
-    (suc h.0, (omega arith, h.1), ap (λ i. (get_or xs i no_point).place) same ∙ ap (λ y. y.place) (get_or_default xs h.0 no_point x h.1 ∙ h.2))

@@ -18,8 +18,10 @@ use Rattle.star_builder.proofs.FacePlanes.{first_of, second_of}
 use Rattle.star_builder.proofs.FaceSimplices.{IsBelowFace}
 use Rattle.star_builder.proofs.FaceSteps.{coordinate_meet, lower_step, step_triple, step_alone}
 use Rattle.star_builder.proofs.FaceTriples.{star_heights, star_generic, face_used, left_lower, lower_left}
+use Rattle.star_builder.proofs.LowSimplices.{IsGeneric}
 use Rattle.star_builder.proofs.LowerSides.{DoMeet, lower_sides_meet}
 use Rattle.star_builder.proofs.Planar.{wedge_turn, lower_turn, lower_once, left_apart}
+use Rattle.star_builder.proofs.UsedPoints.{IsUsed}
 
 -- triples with the same corners, from the same one on, are one
 rotation_moved : (t : Triangle) (x y z i j k : ℕ) → x ≡ i → y ≡ j → z ≡ k → IsRotationOf t x y z → IsRotationOf t i j k
@@ -60,10 +62,13 @@ is_end n s a b (inr e) = inl (end_first n s a b e)
 module _ (g : Shape) (s : IsShape g) (star : List (List ℕ)) (frst : IsFrst g.pair.dual g.points star) (f : ℕ) (within : f < length g.faces) (ts : List Triangle)
     (sound : (t : Triangle) → Contains ts t → IsLeft (patch_at g f) star t) (complete : (t : Triangle) → IsLeft (patch_at g f) star t → Contains ts t) where
   abbrev v : ℕ → ℤ
-  v = star_heights g s star frst
+  v = star_heights g s frst.heights frst.order frst.order_of_all star frst.is
 
-  abbrev On : ℕ → Type 0
-  On = IsOf (patch_at g f)
+  generic : IsGeneric g.points v
+  generic = star_generic g s frst.heights frst.order frst.order_of_all star frst.is
+
+  used : (p : ℕ) → IsOf (patch_at g f) p → IsUsed g.points v p
+  used = face_used g s frst.heights frst.order frst.order_of_all star frst.is f within frst.uses_all
 
   abbrev X : ℕ → ℤ
   X = first_of g s f within v
@@ -77,14 +82,14 @@ module _ (g : Shape) (s : IsShape g) (star : List (List ℕ)) (frst : IsFrst g.p
   corner_lower : (t : Triangle) → Contains ts t → (x y z : ℕ) → IsRotationOf t x y z → IsUnder x y z
   corner_lower t c x y z r =
       at_corner IsUnder (λ i j k l. lower_turn X Y v (IsOf (patch_at g f)) i j k l) t x y z r
-      (left_lower g s star frst f within t (sound t c))
+      (left_lower g s frst.heights frst.order frst.order_of_all star frst.is f within t (sound t c))
 
   -- the third point of a side
   side_lower : (x y : ℕ) → IsSide ts x y → (z : ℕ) × IsUnder x y z
   side_lower x y (t, c, h) = (let r = third_point t x y h in (r.0, corner_lower t c x y r.0 r.1))
 
   lower_side : (x y z : ℕ) → IsUnder x y z → IsSide ts x y
-  lower_side x y z l = (let r = lower_left g s star frst f within x y z l in (r.0, complete r.0 r.1, corner_side r.0 x y z r.2))
+  lower_side x y z l = (let r = lower_left g s frst.heights frst.order frst.order_of_all star frst.is f within x y z l in (r.0, complete r.0 r.1, corner_side r.0 x y z r.2))
 
   ends_apart : (x y z : ℕ) → IsUnder x y z → x ≢ y
   ends_apart x y z l = (left_apart X Y v (IsOf (patch_at g f)) y z x (subst (λ n. pos 0 <ℤ n) (sym (wedge_turn X Y v x y z)) l.left)).0
@@ -98,10 +103,10 @@ module _ (g : Shape) (s : IsShape g) (star : List (List ℕ)) (frst : IsFrst g.p
 
   edge : (x y : ℕ) → (IsSide ts x y × ¬ (IsSide ts y x)) ↔ IsStep (patch_at g f) x y
   edge x y = (
-    (λ h. (let l = side_lower x y h.0 in lower_step g s f within v (face_used g s star frst f within) (star_generic g s star frst) x y l.0 l.1 (λ d m. h.1 (lower_side y x d m)))),
+    (λ h. (let l = side_lower x y h.0 in lower_step g s f within v used generic x y l.0 l.1 (λ d m. h.1 (lower_side y x d m)))),
     (λ step. (
-      (let l = step_triple g s f within v (face_used g s star frst f within) (star_generic g s star frst) x y step in lower_side x y l.0 l.1),
-      (λ back. (let l = side_lower y x back in step_alone g s f within v (face_used g s star frst f within) (star_generic g s star frst) x y step l.0 l.1)),
+      (let l = step_triple g s f within v used generic x y step in lower_side x y l.0 l.1),
+      (λ back. (let l = side_lower y x back in step_alone g s f within v used generic x y step l.0 l.1)),
     )),
   )
 
@@ -147,7 +152,7 @@ module _ (g : Shape) (s : IsShape g) (star : List (List ℕ)) (frst : IsFrst g.p
 
   pub restriction_fine : IsFine (patch_at g f) ts
   restriction_fine = record {
-    unit = λ t c. lower_unit g s f within v (face_used g s star frst f within) t.a t.b t.c (corner_lower t c t.a t.b t.c (inl (refl, refl, refl)));
+    unit = λ t c. lower_unit g s f within v used t.a t.b t.c (corner_lower t c t.a t.b t.c (inl (refl, refl, refl)));
     once = once;
     edge = edge;
     apart = no_cross;

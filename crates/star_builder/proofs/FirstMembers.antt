@@ -15,7 +15,7 @@ use Rattle.star_builder.specs.Walks.{IsMemberIn}
 use Rattle.star_builder.proofs.Crossings.{rising_number}
 use Rattle.star_builder.proofs.FourPoints.{in_four}
 use Rattle.star_builder.proofs.MemberLemmas.{same_first, same_second, same_third, same_fourth}
-use Rattle.star_builder.proofs.VertexPoints.{place_number}
+use Rattle.ntfe_model.proofs.Entries.{entry-at}
 
 module _ (s : Search) (facet : ℕ) where
   abbrev pub IsIn : List ℕ → Type 0
@@ -37,13 +37,13 @@ module _ (s : Search) (facet : ℕ) where
       same (λ a b c d. AreRising s.points.now (record { a = a; b = b; c = c; d = d })) (record { first = h.ordered.0; ab = h.ordered.1; bc = h.ordered.2; cd = h.ordered.3; last = h.ordered.4 })
 
   pub member_on : (ks : List ℕ) → IsIn ks → (x : ℕ) → Contains ks x → IsTight (at s.dual.now facet) (place_of_point s.points.now x)
-  member_on ks m x c = subst (λ v. IsTight v (place_of_point s.points.now x)) (place_number s.dual.now facet) (m.1.1 x c)
+  member_on ks m x c = subst (λ v. IsTight v (place_of_point s.points.now x)) (entry-at s.dual.now facet) (m.1.1 x c)
 
   -- four points of the facet that are a member
   pub found_in : (a b c d : ℕ) → facet < length s.dual.now → IsMember s.dual.now s.points.now s.heights.now (order_of s.push (length s.points.now)) (a ∷ b ∷ c ∷ d ∷ [])
       → IsTight (at s.dual.now facet) (place_of_point s.points.now a) → IsTight (at s.dual.now facet) (place_of_point s.points.now b)
       → IsTight (at s.dual.now facet) (place_of_point s.points.now c) → IsTight (at s.dual.now facet) (place_of_point s.points.now d) → IsIn (a ∷ b ∷ c ∷ d ∷ [])
-  found_in a b c d l m ta tb tc td = (m, ((omega arith, omega (arith, l)), λ x h. subst (λ v. IsTight v (place_of_point s.points.now x)) (sym (place_number s.dual.now facet)) (on x (in_four a b c d x h))))
+  found_in a b c d l m ta tb tc td = (m, ((omega arith, omega (arith, l)), λ x h. subst (λ v. IsTight v (place_of_point s.points.now x)) (sym (entry-at s.dual.now facet)) (on x (in_four a b c d x h))))
     where
       on : (x : ℕ) → (x ≡ a) ⊎ ((x ≡ b) ⊎ ((x ≡ c) ⊎ (x ≡ d))) → IsTight (at s.dual.now facet) (place_of_point s.points.now x)
       on x (inl e) = subst (λ k. IsTight (at s.dual.now facet) (place_of_point s.points.now k)) (sym e) ta

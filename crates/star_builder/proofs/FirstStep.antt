@@ -8,16 +8,18 @@ use Rattle.std.proofs.lemmas.List.Folds.{Any-from_list_any, list_any-from_Any}
 use Rattle.ntfe_nums.specs.Vectors.{Vector, numbers, vector_sum, multiple, coordinate, area}
 use Rattle.ntfe_nums.proofs.Ring.{ring}
 use Rattle.ntfe_nums.proofs.Ring.Expression.{var, num, plus, minus, times, neg}
-use Rattle.ntfe_nums.proofs.Signs.{positive_product}
+use Rattle.ntfe_nums.proofs.Signs.{positive_product, product_exchanged, zero_out, sum_positive, least_once, zero_not_negative, positive_some, less_or_least}
 use Rattle.ntfe_model.specs.Pairs.{IsSmall}
 use Rattle.ntfe_model.specs.Charts.{Spot, Patch, axes, axis_pairs, first_that_spans, spans, place, spot_numbers, IsOf, turn, IsOnSegment, IsStep, AreApart}
-use Rattle.ntfe_model.proofs.Listings.{Contains-here, Contains-there, Contains-cases, Contains-none}
+use Rattle.ntfe_model.proofs.Listings.{Contains-cases, Contains-none}
 use Rattle.ntfe_model.proofs.PlaneNumbers.{positive_factor, cancel, sign_not_right, zero_factor}
-use Rattle.ntfe_model.proofs.Triples.{Decided, decide_number}
+use Rattle.ntfe_model.proofs.Triples.{Decided, decide_listed}
 use Rattle.ntfe_model.proofs.UnitTriples.{area_of}
-use Rattle.star_builder.proofs.Leading.{three_signs}
-use Rattle.star_builder.proofs.FacetPoints.{decide_equal, int_eq_to}
+use Rattle.star_builder.proofs.Decisions.{three_signs}
+use Rattle.star_builder.proofs.FacetPoints.{int_eq_to}
 use Rattle.star_builder.proofs.Least.{least_with}
+use Rattle.ntfe_nums.proofs.Comparisons.{other_passes}
+use Rattle.ntfe_model.proofs.Folds.{vector_swap}
 
 -- ---- coordinates
 
@@ -69,17 +71,8 @@ IsFirst c m n = (pos 0 <ℤ c) ⊎ ((c ≡ pos 0) × (m ≤ℤ n))
 first_chain : (m1 m2 m3 c12 c23 c13 : ℤ) → pos 0 <ℤ m1 → pos 0 <ℤ m2 → pos 0 <ℤ m3 → m2 *ℤ c13 ≡ m3 *ℤ c12 +ℤ m1 *ℤ c23 → IsFirst c12 m1 m2 → IsFirst c23 m2 m3 → IsFirst c13 m1 m3
 first_chain m1 m2 m3 c12 c23 c13 p1 p2 p3 e r t = by r t
   where
-    order : (x y : ℤ) → x *ℤ y ≡ y *ℤ x
-    order x y = omega (arith, ints)
-
     positive : (y z : ℤ) → m2 *ℤ c13 ≡ y +ℤ z → pos 0 <ℤ (y +ℤ z) → pos 0 <ℤ c13
-    positive y z i l = positive_factor c13 m2 p2 (let P : ℤ → Type 0 = λ k. pos 0 <ℤ k in subst P (sym i ∙ order m2 c13) l)
-
-    none : (k z : ℤ) → z ≡ pos 0 → k *ℤ z ≡ pos 0
-    none k z i = ap (λ y. k *ℤ y) i ∙ omega (arith, ints)
-
-    both : (y z : ℤ) → pos 0 <ℤ y → pos 0 <ℤ z → pos 0 <ℤ (y +ℤ z)
-    both y z i j = omega (arith, ints, i, j)
+    positive y z i l = positive_factor c13 m2 p2 (let P : ℤ → Type 0 = λ k. pos 0 <ℤ k in subst P (sym i ∙ product_exchanged m2 c13) l)
 
     left : (y z : ℤ) → pos 0 <ℤ y → z ≡ pos 0 → pos 0 <ℤ (y +ℤ z)
     left y z i j = omega (arith, ints, i, j)
@@ -97,11 +90,11 @@ first_chain m1 m2 m3 c12 c23 c13 p1 p2 p3 e r t = by r t
     not_none z = absurd (omega (arith, ints, p2, z))
 
     by : IsFirst c12 m1 m2 → IsFirst c23 m2 m3 → IsFirst c13 m1 m3
-    by (inl i) (inl j) = inl (positive (m3 *ℤ c12) (m1 *ℤ c23) e (both _ _ (positive_product m3 c12 p3 i) (positive_product m1 c23 p1 j)))
-    by (inl i) (inr (z, l)) = inl (positive (m3 *ℤ c12) (m1 *ℤ c23) e (left _ _ (positive_product m3 c12 p3 i) (none m1 c23 z)))
-    by (inr (z, l)) (inl j) = inl (positive (m3 *ℤ c12) (m1 *ℤ c23) e (right _ _ (none m3 c12 z) (positive_product m1 c23 p1 j)))
+    by (inl i) (inl j) = inl (positive (m3 *ℤ c12) (m1 *ℤ c23) e (sum_positive _ _ (positive_product m3 c12 p3 i) (positive_product m1 c23 p1 j)))
+    by (inl i) (inr (z, l)) = inl (positive (m3 *ℤ c12) (m1 *ℤ c23) e (left _ _ (positive_product m3 c12 p3 i) (zero_out m1 c23 z)))
+    by (inr (z, l)) (inl j) = inl (positive (m3 *ℤ c12) (m1 *ℤ c23) e (right _ _ (zero_out m3 c12 z) (positive_product m1 c23 p1 j)))
     by (inr (z, l)) (inr (y, k)) =
-        inr (⊎_elim (λ q. absurd (not_none q)) (λ q. q) (zero_factor m2 c13 (e ∙ sum_none _ _ (none m3 c12 z) (none m1 c23 y))), longer l k)
+        inr (⊎_elim (λ q. absurd (not_none q)) (λ q. q) (zero_factor m2 c13 (e ∙ sum_none _ _ (zero_out m3 c12 z) (zero_out m1 c23 y))), longer l k)
 
 -- ---- the axes span the face
 
@@ -112,13 +105,6 @@ module _ (h : Patch) where
 
   not_equal : (z : ℤ) → not (int_eq z (pos 0)) ≡ true → z ≢ pos 0
   not_equal z e f = let g : not true ≡ true = ap not (sym (int_eq_to z (pos 0) f)) ∙ e in cc
-
-  equal_not : (z : ℤ) → z ≢ pos 0 → not (int_eq z (pos 0)) ≡ true
-  equal_not z n = ⊎_elim (λ e. absurd (n e)) (λ m. by (int_eq z (pos 0)) refl) (decide_equal z (pos 0))
-    where
-      by : (b : Bool) → int_eq z (pos 0) ≡ b → not (int_eq z (pos 0)) ≡ true
-      by true e = absurd (n (grind (arith, ints, e)))
-      by false e = ap not e
 
   to_any : (P : Spot → Type 0) (a : Spot) → Contains h a → P a → Any P h
   to_any P a c p = (c.0, a, c.1, c.2, p)
@@ -137,7 +123,7 @@ module _ (h : Patch) where
       (list_any-from_Any (λ (b : Spot). list_any (λ (c : Spot). not (int_eq (area q a.place b.place c.place) (pos 0))) h) h
       (to_any (λ (d : Spot). list_any (λ (c : Spot). not (int_eq (area q a.place d.place c.place) (pos 0))) h ≡ true) b ib
       (list_any-from_Any (λ (c : Spot). not (int_eq (area q a.place b.place c.place) (pos 0))) h
-      (to_any (λ (d : Spot). not (int_eq (area q a.place b.place d.place) (pos 0)) ≡ true) c ic (equal_not (area q a.place b.place c.place) n))))))
+      (to_any (λ (d : Spot). not (int_eq (area q a.place b.place d.place) (pos 0)) ≡ true) c ic (other_passes (area q a.place b.place c.place) n))))))
 
   first_spans : (qs : List (ℕ × ℕ)) (q : ℕ × ℕ) → Contains qs q → HaveArea q → HaveArea (first_that_spans h qs)
   first_spans [] q c r = Contains-none q c
@@ -173,16 +159,7 @@ module _ (h : Patch) (apart : AreApart h) (small : (p : ℕ) → IsOf h p → Is
   rank p = weigh (x_of p) (y_of p)
 
   decide_of : (p : ℕ) → Decided (IsOf h p)
-  decide_of p = by (spot_numbers h)
-    where
-      by : (ks : List ℕ) → Decided (Contains ks p)
-      by [] = inr (λ c. Contains-none p c)
-      by (k ∷ ks) = go (decide_number p k) (by ks)
-        where
-          go : Decided (p ≡ k) → Decided (Contains ks p) → Decided (Contains (k ∷ ks) p)
-          go (inl e) q = inl (Contains-here p k ks e)
-          go (inr n) (inl c) = inl (Contains-there p k ks c)
-          go (inr n) (inr m) = inr (λ c. ⊎_elim n m (Contains-cases p k ks c))
+  decide_of p = decide_listed (spot_numbers h) p
 
   same_rank : (p r : ℕ) → IsOf h p → IsOf h r → rank p ≡ rank r → (x_of p ≡ x_of r) × (y_of p ≡ y_of r)
   same_rank p r i j e =
@@ -258,19 +235,13 @@ module _ (h : Patch) (apart : AreApart h) (small : (p : ℕ) → IsOf h p → Is
           not_left c m n (inl l) = omega (arith, ints, l)
           not_left c m n (inr (e, l)) = omega (arith, ints, e)
 
-          equal : (y z : ℤ) → y ≤ℤ z → z ≤ℤ y → y ≡ z
-          equal y z i j = omega (arith, ints, i, j)
-
           flat : (x y u v : ℤ) → pos 0 ≤ℤ (x *ℤ (v -ℤ v) -ℤ y *ℤ (u -ℤ u))
-          flat x y u v = zero_below _ (ring (x ∷ y ∷ u ∷ v ∷ []) (minus (times (var 0) (minus (var 3) (var 3))) (times (var 1) (minus (var 2) (var 2)))) (num (pos 0)) refl)
-            where
-              zero_below : (z : ℤ) → z ≡ pos 0 → pos 0 ≤ℤ z
-              zero_below z e = omega (arith, ints, e)
+          flat x y u v = zero_not_negative _ (ring (x ∷ y ∷ u ∷ v ∷ []) (minus (times (var 0) (minus (var 3) (var 3))) (times (var 1) (minus (var 2) (var 2)))) (num (pos 0)) refl)
 
           by : (rank p ≤ℤ rank a) ⊎ (rank a <ℤ rank p) → pos 0 ≤ℤ area_of h a b p
           by (inr l) = not_left (cross (dx b) (dy b) (dx p) (dy p)) (further b) (further p) (least p (below p o) (o, l))
           by (inl l) =
-              let e = same_rank p a o oa (equal (rank p) (rank a) l (first p (below p o) o)) in
+              let e = same_rank p a o oa (least_once (rank p) (rank a) l (first p (below p o) o)) in
               let P : ℤ × ℤ → Type 0 = λ k. pos 0 ≤ℤ (dx b *ℤ (k.1 -ℤ y_of a) -ℤ dy b *ℤ (k.0 -ℤ x_of a)) in
               subst P (λ i. (sym e.0 i, sym e.1 i)) (flat (dx b) (dy b) (x_of a) (y_of a))
 
@@ -282,24 +253,15 @@ module _ (h : Patch) (apart : AreApart h) (small : (p : ℕ) → IsOf h p → Is
 
           at_end : (m n k : ℤ) (u v w : Vector) → pos 0 <ℤ k → multiple k w ≡ vector_sum (multiple m u) (multiple n v) → m ≡ k → n ≡ pos 0 → w ≡ u
           at_end m n k u v w l e f g =
-              let one : (x : Vector → ℤ) → k *ℤ x w ≡ m *ℤ x u +ℤ n *ℤ x v → x w ≡ x u = (λ x i. cancel (x w) (x u) k l (last k (x w) (m *ℤ x u +ℤ n *ℤ x v) (k *ℤ x u) i (ap (λ z. z *ℤ x u +ℤ n *ℤ x v) f ∙ ap (λ z. k *ℤ x u +ℤ z *ℤ x v) g ∙ rest k (x u) (x v)) ∙ order k (x u))) in
+              let one : (x : Vector → ℤ) → k *ℤ x w ≡ m *ℤ x u +ℤ n *ℤ x v → x w ≡ x u = (λ x i. cancel (x w) (x u) k l (last k (x w) (m *ℤ x u +ℤ n *ℤ x v) (k *ℤ x u) i (ap (λ z. z *ℤ x u +ℤ n *ℤ x v) f ∙ ap (λ z. k *ℤ x u +ℤ z *ℤ x v) g ∙ rest k (x u) (x v)) ∙ product_exchanged k (x u))) in
               let e1 = one (λ v. v.x1) (ap (λ v. v.x1) e) in let e2 = one (λ v. v.x2) (ap (λ v. v.x2) e) in let e3 = one (λ v. v.x3) (ap (λ v. v.x3) e) in let e4 = one (λ v. v.x4) (ap (λ v. v.x4) e) in
               λ i. record { x1 = e1 i; x2 = e2 i; x3 = e3 i; x4 = e4 i }
             where
-              order : (y z : ℤ) → y *ℤ z ≡ z *ℤ y
-              order y z = omega (arith, ints)
-
               rest : (c y z : ℤ) → c *ℤ y +ℤ pos 0 *ℤ z ≡ c *ℤ y
               rest c y z = omega (arith, ints)
 
               last : (c y z t : ℤ) → c *ℤ y ≡ z → z ≡ t → y *ℤ c ≡ t
-              last c y z t i j = order y c ∙ i ∙ j
-
-          swapped : (u v : Vector) → vector_sum u v ≡ vector_sum v u
-          swapped u v = λ i. record { x1 = order u.x1 v.x1 i; x2 = order u.x2 v.x2 i; x3 = order u.x3 v.x3 i; x4 = order u.x4 v.x4 i }
-            where
-              order : (y z : ℤ) → y +ℤ z ≡ z +ℤ y
-              order y z = omega (arith, ints)
+              last c y z t i j = product_exchanged y c ∙ i ∙ j
 
           some : pos 0 <ℤ pos r.n
           some = let k = r.range.0 in omega (arith, ints, k)
@@ -320,21 +282,15 @@ module _ (h : Patch) (apart : AreApart h) (small : (p : ℕ) → IsOf h p → Is
               ∙ (λ i. pos 4096 *ℤ part (axes h).0 i +ℤ part (axes h).1 i)
               ∙ ring (pos r.s ∷ dx b ∷ dy b ∷ []) (plus (times (num (pos 4096)) (times (var 0) (var 1))) (times (var 0) (var 2))) (times (var 0) (plus (times (num (pos 4096)) (var 1)) (var 2))) refl
 
-          order : (y z : ℤ) → y *ℤ z ≡ z *ℤ y
-          order y z = omega (arith, ints)
-
           on_ray : cross (dx b) (dy b) (dx p) (dy p) ≡ pos 0
           on_ray =
-              ⊎_elim (λ z. absurd (no (pos r.n) some z)) (λ z. z)
+              ⊎_elim (λ z. absurd (positive_some (pos r.n) some z)) (λ z. z)
               (zero_factor (pos r.n) (cross (dx b) (dy b) (dx p) (dy p)) (
               ring (pos r.n ∷ dx b ∷ dy b ∷ dx p ∷ dy p ∷ []) (times (var 0) (minus (times (var 1) (var 4)) (times (var 2) (var 3))))
               (minus (times (var 1) (times (var 0) (var 4))) (times (var 2) (times (var 0) (var 3)))) refl
               ∙ (λ i. dx b *ℤ part (axes h).1 i -ℤ dy b *ℤ part (axes h).0 i)
               ∙ ring (pos r.s ∷ dx b ∷ dy b ∷ []) (minus (times (var 1) (times (var 0) (var 2))) (times (var 2) (times (var 0) (var 1)))) (num (pos 0)) refl
               ))
-            where
-              no : (y : ℤ) → pos 0 <ℤ y → y ≡ pos 0 → ⊥
-              no y l z = absurd (omega (arith, ints, l, z))
 
           positive : (y : ℤ) → pos 0 <ℤ y → pos 0 <ℤ (y *ℤ further b)
           positive y l = positive_product y (further b) l (further_positive b later)
@@ -342,7 +298,7 @@ module _ (h : Patch) (apart : AreApart h) (small : (p : ℕ) → IsOf h p → Is
           nearer : 0 < r.s → r.s < r.n → ⊥
           nearer i j =
               let t : pos 0 <ℤ pos r.s = omega (arith, ints, i) in
-              let p1 : pos 0 <ℤ further p = positive_factor (further p) (pos r.n) some (let P : ℤ → Type 0 = λ z. pos 0 <ℤ z in subst P (sym weighed ∙ order (pos r.n) (further p)) (positive (pos r.s) t)) in
+              let p1 : pos 0 <ℤ further p = positive_factor (further p) (pos r.n) some (let P : ℤ → Type 0 = λ z. pos 0 <ℤ z in subst P (sym weighed ∙ product_exchanged (pos r.n) (further p)) (positive (pos r.s) t)) in
               let g : pos 0 <ℤ (pos r.n -ℤ pos r.s) = omega (arith, ints, j) in
               let q1 : pos 0 <ℤ (further b -ℤ further p) =
               positive_factor (further b -ℤ further p) (pos r.n) some (let P : ℤ → Type 0 = λ z. pos 0 <ℤ z in subst P
@@ -368,7 +324,7 @@ module _ (h : Patch) (apart : AreApart h) (small : (p : ℕ) → IsOf h p → Is
               zero_off y z f = omega (arith, ints, f)
           by (inr (inl e)) =
               nb (apart p b o later.0 (at_end (pos r.s) (pos r.n -ℤ pos r.s) (pos r.n) (place h b) (place h a) (place h p) some
-              (r.mix ∙ swapped (multiple (pos r.n -ℤ pos r.s) (place h a)) (multiple (pos r.s) (place h b))) (ap pos e) (none (pos r.n) (pos r.s) (ap pos e))))
+              (r.mix ∙ vector_swap (multiple (pos r.n -ℤ pos r.s) (place h a)) (multiple (pos r.s) (place h b))) (ap pos e) (none (pos r.n) (pos r.s) (ap pos e))))
             where
               none : (y z : ℤ) → z ≡ y → y -ℤ z ≡ pos 0
               none y z f = omega (arith, ints, f)
@@ -411,11 +367,8 @@ module _ (h : Patch) (apart : AreApart h) (small : (p : ℕ) → IsOf h p → Is
       let b = step_from a.0 a.1 a.2 p q r op oq or n in
       (a.0, b.0, b.1)
     where
-      either : (y z : ℤ) → (y ≤ℤ z) ⊎ (z ≤ℤ y)
-      either y z = ⊎_elim inl (λ l. inr (omega (arith, ints, l))) (compare y z)
-
       total : (i j : ℕ) → IsOf h i → IsOf h j → (rank i ≤ℤ rank j) ⊎ (rank j ≤ℤ rank i)
-      total i j k l = either (rank i) (rank j)
+      total i j k l = less_or_least (rank i) (rank j)
 
       longer : (x y z : ℤ) → x ≤ℤ y → y ≤ℤ z → x ≤ℤ z
       longer x y z l m = omega (arith, ints, l, m)

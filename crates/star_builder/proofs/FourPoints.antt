@@ -2,16 +2,16 @@
 --     combined l f a b c d      l a f a + l b f b + l c f c + l d f d
 --     combined_spread      where three numbers are spread over three of the four, the combination is theirs
 --     factors_fixed      factors that give one combination of independent vectors are equal
-use Rattle.std.proofs.Common.{◌≡◌, ◌≢◌, ℕ, ◌+◌, ◌<◌, ◌==◌, ◌⊎◌, inl, inr, ⊎_elim, true, false, cond, refl, sym, ap, ◌∙◌, arith, ℤ, pos, ◌+ℤ◌, ◌-ℤ◌, ◌*ℤ◌, List, [], ◌∷◌}
+use Rattle.std.proofs.Common.{◌≡◌, ◌≢◌, ℕ, ◌+◌, ◌<◌, ◌==◌, ◌⊎◌, inl, inr, ⊎_elim, true, false, cond, refl, sym, ap, ◌∙◌, arith, ℤ, pos, ◌+ℤ◌, ◌*ℤ◌, List, [], ◌∷◌}
 use Rattle.std.specs.Prelude.{Contains}
 use Rattle.std.proofs.lemmas.Int.{ints}
 use Rattle.std.proofs.lemmas.Bool.Decides.{nat_tests}
 use Rattle.ntfe_nums.specs.Vectors.{Vector, vector_sum, multiple, det4, AreLinearlyIndependent}
 use Rattle.ntfe_nums.proofs.Ring.{Expression, ring}
-use Rattle.ntfe_nums.proofs.Ring.Expression.{var, minus, plus, times}
+use Rattle.ntfe_nums.proofs.Ring.Expression.{var, plus, times}
 use Rattle.ntfe_nums.proofs.DetLemmas.{Row, row, det4E}
 use Rattle.ntfe_model.proofs.Listings.{Contains-cases, Contains-none}
-use Rattle.ntfe_model.proofs.PlaneNumbers.{zero_factor}
+use Rattle.ntfe_model.proofs.PlaneNumbers.{cancel_other}
 
 -- ---- one number at one point
 
@@ -131,20 +131,8 @@ module _ (a b c d : Vector) where
 
   pub factors_fixed : AreLinearlyIndependent a b c d → (i j k l i' j' k' l' : ℤ) → sum_of i j k l ≡ sum_of i' j' k' l' → (i ≡ i') × (j ≡ j') × (k ≡ k') × (l ≡ l')
   factors_fixed independent i j k l i' j' k' l' e = (
-    equal i i' (sym (first_factor i j k l) ∙ ap (λ v. det4 v b c d) e ∙ first_factor i' j' k' l'),
-    equal j j' (sym (second_factor i j k l) ∙ ap (λ v. det4 a v c d) e ∙ second_factor i' j' k' l'),
-    equal k k' (sym (third_factor i j k l) ∙ ap (λ v. det4 a b v d) e ∙ third_factor i' j' k' l'),
-    equal l l' (sym (fourth_factor i j k l) ∙ ap (det4 a b c) e ∙ fourth_factor i' j' k' l'),
+    cancel_other i i' (det4 a b c d) independent (sym (first_factor i j k l) ∙ ap (λ v. det4 v b c d) e ∙ first_factor i' j' k' l'),
+    cancel_other j j' (det4 a b c d) independent (sym (second_factor i j k l) ∙ ap (λ v. det4 a v c d) e ∙ second_factor i' j' k' l'),
+    cancel_other k k' (det4 a b c d) independent (sym (third_factor i j k l) ∙ ap (λ v. det4 a b v d) e ∙ third_factor i' j' k' l'),
+    cancel_other l l' (det4 a b c d) independent (sym (fourth_factor i j k l) ∙ ap (det4 a b c) e ∙ fourth_factor i' j' k' l'),
   )
-    where
-      same : (x y : ℤ) → x -ℤ y ≡ pos 0 → x ≡ y
-      same x y q = omega (arith, ints, q)
-
-      none : (x y : ℤ) → x ≡ y → x -ℤ y ≡ pos 0
-      none x y q = omega (arith, ints, q)
-
-      equal : (x y : ℤ) → x *ℤ det4 a b c d ≡ y *ℤ det4 a b c d → x ≡ y
-      equal x y q =
-          let D = det4 a b c d in
-          let r : (x -ℤ y) *ℤ D ≡ x *ℤ D -ℤ y *ℤ D = ring (x ∷ y ∷ D ∷ []) (times (minus (var 0) (var 1)) (var 2)) (minus (times (var 0) (var 2)) (times (var 1) (var 2))) refl in
-          ⊎_elim (same x y) (λ z. absurd (independent z)) (zero_factor (x -ℤ y) D (r ∙ none (x *ℤ D) (y *ℤ D) q))

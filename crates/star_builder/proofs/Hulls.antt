@@ -1,25 +1,24 @@
 -- A linear form that no vertex lies below: neither does a vector, times a positive number, on which all dual vertices agree that it is in the polytope.
 --     hull_over      the value there is not negative
-use Rattle.std.proofs.Common.{◌≡◌, ◌≢◌, ℕ, zero, suc, inl, inr, ⊎_elim, refl, sym, ap, ◌∙◌, subst, arith, ℤ, pos, negsuc, ◌+ℤ◌, ◌-ℤ◌, ◌*ℤ◌, ◌<ℤ◌, ◌≤ℤ◌, List, [], ◌∷◌}
+use Rattle.std.proofs.Common.{◌≡◌, ◌≢◌, ℕ, zero, suc, ⊎_elim, refl, sym, ◌∙◌, subst, arith, ℤ, pos, negsuc, ◌+ℤ◌, ◌-ℤ◌, ◌*ℤ◌, ◌<ℤ◌, ◌≤ℤ◌, List, [], ◌∷◌}
 use Rattle.std.specs.Prelude.{Contains}
 use Rattle.std.proofs.lemmas.Int.{ints}
 use Rattle.std.proofs.lemmas.List.Elements.{Contains-get_or}
 use Rattle.ntfe_nums.specs.Vectors.{Vector, dot, multiple, origin}
 use Rattle.ntfe_nums.proofs.Ring.{ring}
-use Rattle.ntfe_nums.proofs.Ring.Expression.{var, num, minus, plus, times}
-use Rattle.ntfe_nums.proofs.DetLemmas.{row, dotE}
+use Rattle.ntfe_nums.proofs.Ring.Expression.{var, num, minus, times}
 use Rattle.ntfe_model.specs.Pairs.{VertexLists}
 use Rattle.ntfe_model.specs.Reflexive.{IsTight, IsReflexive, at}
 use Rattle.ntfe_nums.proofs.Exchanges.{cramer_form, swap_first, swap_middle, swap_last}
-use Rattle.star_builder.proofs.Flanks.{numbers_of, has_number, number_within, IsFlank, facet_through}
+use Rattle.star_builder.proofs.Flanks.{numbers_of, has_number, number_within}
 use Rattle.star_builder.proofs.LowSimplices.{turned_not_zero}
 use Rattle.star_builder.proofs.Normals.{cancel_factor}
-use Rattle.star_builder.proofs.Proportions.{gaps_alike}
-use Rattle.star_builder.proofs.Rises.{gap, rise, rise_gap, rise_first, rise_second, rise_third, rise_fourth, rise_exchange, through, volume}
+use Rattle.star_builder.proofs.Rises.{gap, rise, rise_gap, rise_first, rise_second, rise_third, rise_fourth, through, volume}
 use Rattle.star_builder.proofs.Spanning.{spot, weight_of, facet_four, spanning_size, spanning_form}
+use Rattle.star_builder.proofs.TouchedFacets.{depth_value, side_some, side_gap, alike, touched_facet}
 use Rattle.star_builder.proofs.Tilts.{IsUnder, IsTiltedAlong, tilt_along, IsThrice, three_tilts}
 use Rattle.star_builder.proofs.Searches.{some_not_zero}
-use Rattle.ntfe_nums.proofs.Signs.{product_not_negative, product_not_positive, sign_of, zero_or, zero_out, positive_product}
+use Rattle.ntfe_nums.proofs.Signs.{product_not_negative, sign_of, zero_or, zero_out, positive_product, zero_between}
 
 module _ (p : VertexLists) (r : IsReflexive p) (m : Vector) (within : Contains p.dual m) (x : Vector) (k : ℤ) (positive : pos 0 <ℤ k) (level : dot m x ≡ pos 0 -ℤ k)
     (inside : (f : Vector) → Contains p.dual f → pos 0 ≤ℤ (k +ℤ dot f x)) where
@@ -95,19 +94,8 @@ module _ (p : VertexLists) (r : IsReflexive p) (m : Vector) (within : Contains p
     abbrev side : ℕ → ℤ
     side = rise places weights a b c e
 
-    -- the side of x
-    side_x : side 0 ≢ pos 0
-    side_x = turned_not_zero (rise places weights a b c 0 e) (side 0) (rise_exchange places weights a b c 0 e) apart
-
-    side_gap : (i : ℕ) → side i ≡ value (det a b c e) (through places weights a b c e) i
-    side_gap i = rise_gap places weights a b c e i
-
-    sides_alike : (i : ℕ) → value s n 0 *ℤ side i ≡ side 0 *ℤ value s n i
-    sides_alike i =
-        (λ t. value s n 0 *ℤ side_gap i t)
-        ∙ gaps_alike places weights s n (det a b c e) (through places weights a b c e) a b c 0 e i independent apart touches
-        (sym (side_gap a) ∙ rise_first places weights a b c e, sym (side_gap b) ∙ rise_second places weights a b c e, sym (side_gap c) ∙ rise_third places weights a b c e, sym (side_gap e) ∙ rise_fourth places weights a b c e)
-        ∙ (λ t. sym (side_gap 0) t *ℤ value s n i)
+    side_is : (i : ℕ) → side i ≡ value (det a b c e) (through places weights a b c e) i
+    side_is i = side_gap p r x k s n 0 a b c e touches independent apart i
 
     -- some vertex is not level with the four
     not_level : (z : ℕ) × Contains numbers z × (side z ≢ pos 0)
@@ -115,11 +103,8 @@ module _ (p : VertexLists) (r : IsReflexive p) (m : Vector) (within : Contains p
       where
         flat : ((i : ℕ) → Contains (numbers_of p.vertices) i → rise (spot x p.vertices) (weight_of k) a b c e i ≡ pos 0) → ⊥
         flat none =
-            side_x (side_gap 0 ∙ (λ t. spans_size (det a b c e) (through places weights a b c e) (λ i h. sym (side_gap i) ∙ none i h) t *ℤ k -ℤ spans_form (det a b c e) (through places weights a b c e) (λ i h. sym (side_gap i) ∙ none i h) t)
+            side_some p r x k s n 0 a b c e touches independent apart (side_is 0 ∙ (λ t. spans_size (det a b c e) (through places weights a b c e) (λ i h. sym (side_is i) ∙ none i h) t *ℤ k -ℤ spans_form (det a b c e) (through places weights a b c e) (λ i h. sym (side_is i) ∙ none i h) t)
             ∙ ring (k ∷ []) (minus (times (num (pos 0)) (var 0)) (num (pos 0))) (num (pos 0)) refl)
-
-    weak : (z : ℤ) → pos 0 <ℤ z → pos 0 ≤ℤ z
-    weak z l = omega (arith, ints, l)
 
     -- a number whose multiple by a negative number has a sign has the other
     other_sign_up : (v y z : ℤ) → v <ℤ pos 0 → v *ℤ y ≡ z → pos 0 ≤ℤ z → y ≤ℤ pos 0
@@ -131,36 +116,13 @@ module _ (p : VertexLists) (r : IsReflexive p) (m : Vector) (within : Contains p
             clash : (f g z : ℤ) → pos 0 <ℤ f → f ≡ pos 0 -ℤ g → g ≡ z → pos 0 ≤ℤ z → ⊥
             clash f g z l1 e1 e2 l2 = absurd (omega (arith, ints, l1, e1, e2, l2))
 
-    other_sign_down : (v y z : ℤ) → v <ℤ pos 0 → v *ℤ y ≡ z → z ≤ℤ pos 0 → pos 0 ≤ℤ y
-    other_sign_down v y z l q o =
-        turn y (other_sign_up v (pos 0 -ℤ y) (pos 0 -ℤ z) l (ring (v ∷ y ∷ []) (times (var 0) (minus (num (pos 0)) (var 1))) (minus (num (pos 0)) (times (var 0) (var 1))) refl ∙ ap (λ t. pos 0 -ℤ t) q) (omega (arith, ints, o)))
-      where
-        turn : (y : ℤ) → (pos 0 -ℤ y) ≤ℤ pos 0 → pos 0 ≤ℤ y
-        turn y h = omega (arith, ints, h)
-
-    flank : IsFlank p r x k a b c e
-    flank = record { numbers = inside_list; z = not_level.0; within = not_level.1; apart = not_level.2; one_side = ⊎_elim (λ l. inl (below l)) (λ l. inr (above l)) (sign_of (side 0)) }
-      where
-        below : pos 0 <ℤ rise (spot x p.vertices) (weight_of k) a b c e 0 → (i : ℕ) → Contains (numbers_of p.vertices) i → rise (spot x p.vertices) (weight_of k) a b c e i ≤ℤ pos 0
-        below l i h = other_sign_up (value s n 0) (side i) (side 0 *ℤ value s n i) negative (sides_alike i) (product_not_negative (side 0) (value s n i) (weak (side 0) l) (under i h))
-
-        above : rise (spot x p.vertices) (weight_of k) a b c e 0 ≤ℤ pos 0 → (i : ℕ) → Contains (numbers_of p.vertices) i → pos 0 ≤ℤ rise (spot x p.vertices) (weight_of k) a b c e i
-        above l i h = other_sign_down (value s n 0) (side i) (side 0 *ℤ value s n i) negative (sides_alike i) (turned (side 0) (value s n i) (product_not_positive (value s n i) (side 0) (under i h) l))
-          where
-            turned : (f g : ℤ) → (g *ℤ f) ≤ℤ pos 0 → (f *ℤ g) ≤ℤ pos 0
-            turned f g q = subst (λ t. t ≤ℤ pos 0) (ring (g ∷ f ∷ []) (times (var 0) (var 1)) (times (var 1) (var 0)) refl) q
-
     -- a dual vertex that is tight on the four is then tight on all vertices
     module _ (f : Vector) (h : Contains p.dual f) (ta : IsTight f (places a)) (tb : IsTight f (places b)) (tc : IsTight f (places c)) (te : IsTight f (places e)) where
       abbrev turned : Vector
       turned = multiple (negsuc 0) f
 
       turned_value : (i : ℕ) → value (pos 1) turned i ≡ weights i +ℤ dot f (places i)
-      turned_value i =
-          let v = places i in
-          ring (f.x1 ∷ f.x2 ∷ f.x3 ∷ f.x4 ∷ v.x1 ∷ v.x2 ∷ v.x3 ∷ v.x4 ∷ weights i ∷ [])
-          (minus (times (num (pos 1)) (var 8)) (dotE (record { x1 = times (num (negsuc 0)) (var 0); x2 = times (num (negsuc 0)) (var 1); x3 = times (num (negsuc 0)) (var 2); x4 = times (num (negsuc 0)) (var 3) }) (row 4)))
-          (plus (var 8) (dotE (row 0) (row 4))) refl
+      turned_value = depth_value p r x k f
 
       weight_one : (i : ℕ) → Contains numbers i → weights i ≡ pos 1
       weight_one zero q = absurd (let w = number_within p.vertices zero q in omega (arith, w.0))
@@ -180,14 +142,11 @@ module _ (p : VertexLists) (r : IsReflexive p) (m : Vector) (within : Contains p
 
       none : (i : ℕ) → Contains numbers i → value (pos 1) turned i ≡ pos 0
       none i q =
-          both (value (pos 1) turned i) (over i q)
+          zero_between (value (pos 1) turned i) (over i q)
           (other_sign_up (value s n 0) (value (pos 1) turned i) (value (pos 1) turned 0 *ℤ value s n i) negative
-          (gaps_alike places weights s n (pos 1) turned a b c 0 e i independent apart touches
-          (tight_value a inside_list.0 ta, tight_value b inside_list.1 tb, tight_value c inside_list.2 tc, tight_value e inside_list.3 te))
+          (alike p r x k s n 0 a b c e touches independent apart (pos 1) turned
+          (tight_value a inside_list.0 ta, tight_value b inside_list.1 tb, tight_value c inside_list.2 tc, tight_value e inside_list.3 te) i)
           (product_not_negative (value (pos 1) turned 0) (value s n i) (subst (λ z. pos 0 ≤ℤ z) (sym (turned_value 0)) (inside f h)) (under i q)))
-        where
-          both : (z : ℤ) → pos 0 ≤ℤ z → z ≤ℤ pos 0 → z ≡ pos 0
-          both z l o = omega (arith, ints, l, o)
 
       tight_absurd : ⊥
       tight_absurd = no (spans_size (pos 1) turned none)
@@ -196,7 +155,15 @@ module _ (p : VertexLists) (r : IsReflexive p) (m : Vector) (within : Contains p
           no q = absurd (omega (arith, ints, q))
 
     touched_absurd : ⊥
-    touched_absurd = (let h = facet_through p r x k a b c e flank in tight_absurd h.0 h.1 h.2 h.3 h.4 h.5)
+    touched_absurd =
+        (let h = touched_facet p r x k s n 0 a b c e touches independent apart under some inside_list not_level.0 not_level.1 not_level.2 in
+        tight_absurd h.0 h.1 h.2 h.3 h.4 h.5)
+      where
+        some : gap (spot x p.vertices) (weight_of k) s n 0 ≢ pos 0
+        some e = no (value s n 0) negative e
+          where
+            no : (z : ℤ) → z <ℤ pos 0 → z ≡ pos 0 → ⊥
+            no z l q = absurd (omega (arith, ints, l, q))
 
   -- ---- a form that is negative at x
 

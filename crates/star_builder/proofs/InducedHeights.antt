@@ -28,18 +28,16 @@ use Rattle.ntfe_model.proofs.GeometryPoints.{point_within, point_place, point_sm
 use Rattle.star_builder.proofs.Weights.{weight, weighed, leader_decides, weighed_mix}
 use Rattle.star_builder.proofs.FourPoints.{one_at}
 use Rattle.star_builder.proofs.MemberPlanes.{form, outside_member, form_leads}
-use Rattle.star_builder.proofs.UnitShares.{factor_bound, unit_factors_small, mixed_corners}
+use Rattle.star_builder.proofs.UnitCoordinates.{factor_bound, unit_factors_small, mixed_corners}
+use Rattle.ntfe_nums.proofs.Signs.{two_orders}
 
 -- ---- the corners of a triple stand together
 
 pub corners_together : (h : Patch) (star : List (List ℕ)) (x : Triangulation) → Leaves h star x → (t : Triangle) → Contains x.triangles t → IsUnit h t.a t.b t.c → AreTogether star t.a t.b t.c
-corners_together h star x leaves t c u = by (apart t.a t.b three.0) (apart t.b t.c three.1) (apart t.c t.a three.2)
+corners_together h star x leaves t c u = by (two_orders t.a t.b three.0) (two_orders t.b t.c three.1) (two_orders t.c t.a three.2)
   where
     three : AreThree t
     three = unit_three h t u
-
-    apart : (i j : ℕ) → i ≢ j → (i < j) ⊎ (j < i)
-    apart i j n = grind arith
 
     -- the corners by rising numbers
     rising : (i j k : ℕ) → i < j → j < k → IsOf h i → IsOf h j → IsOf h k → IsRotationOf t i j k ⊎ IsRotationOf t i k j → AreTogether star i j k
@@ -53,10 +51,10 @@ corners_together h star x leaves t c u = by (apart t.a t.b three.0) (apart t.b t
     by (inr ba) (inl bc) (inr ac) = let r = rising t.b t.a t.c ba ac u.points.1 u.points.0 u.points.2 (inr (inr (inl (refl, refl, refl)))) in (r.0, r.1, r.3, r.2, r.4)
     by (inr ba) (inr cb) ca = let r = rising t.c t.b t.a cb ba u.points.2 u.points.1 u.points.0 (inr (inr (inr (refl, refl, refl)))) in (r.0, r.1, r.4, r.3, r.2)
 
--- ---- a mixture of points of a facet whose factors add up to 1 lies in the facet
+-- ---- a combination of points of a facet whose factors add up to 1 lies in the facet
 
-tight_mixture : (m a b c : Vector) (s t : ℤ) → IsTight m a → IsTight m b → IsTight m c → IsTight m (vector_sum (vector_sum (multiple (pos 1 -ℤ s -ℤ t) a) (multiple s b)) (multiple t c))
-tight_mixture m a b c s t ea eb ec =
+tight_combination : (m a b c : Vector) (s t : ℤ) → IsTight m a → IsTight m b → IsTight m c → IsTight m (vector_sum (vector_sum (multiple (pos 1 -ℤ s -ℤ t) a) (multiple s b)) (multiple t c))
+tight_combination m a b c s t ea eb ec =
     ring (m.x1 ∷ m.x2 ∷ m.x3 ∷ m.x4 ∷ a.x1 ∷ a.x2 ∷ a.x3 ∷ a.x4 ∷ b.x1 ∷ b.x2 ∷ b.x3 ∷ b.x4 ∷ c.x1 ∷ c.x2 ∷ c.x3 ∷ c.x4 ∷ s ∷ t ∷ [])
     (dotE (row 0) (record { x1 = mixE 4; x2 = mixE 5; x3 = mixE 6; x4 = mixE 7 }))
     (plus (plus (times (minus (minus (num (pos 1)) (var 16)) (var 17)) (dotE (row 0) (row 4))) (times (var 16) (dotE (row 0) (row 8)))) (times (var 17) (dotE (row 0) (row 12)))) refl
@@ -153,7 +151,7 @@ module _ (g : Shape) (choice : List ℕ) (s : IsShape g) (induced : IsInduced g 
   place_is : (k : ℕ) → IsOf patch k → place patch k ≡ at k
   place_is k q = point_place g s f within k q
 
-  -- p as a mixture of the corners
+  -- p as a combination of the corners
   mixed : (i j : ℤ) → place patch p ≡ reached (place patch t.a) (place patch t.b) (place patch t.c) i j
       → at p ≡ vector_sum (vector_sum (multiple (pos 1 -ℤ i -ℤ j) (at t.a)) (multiple i (at t.b))) (multiple j (at t.c))
   mixed i j lies =
@@ -191,7 +189,7 @@ module _ (g : Shape) (choice : List ℕ) (s : IsShape g) (induced : IsInduced g 
           tight : IsTight (entry g.pair.dual m.facet) (at p)
           tight =
               ap (dot (entry g.pair.dual m.facet)) (mixed i j lies)
-              ∙ tight_mixture (entry g.pair.dual m.facet) (at t.a) (at t.b) (at t.c) i j (m.tight t.a ca) (m.tight t.b cb) (m.tight t.c cc)
+              ∙ tight_combination (entry g.pair.dual m.facet) (at t.a) (at t.b) (at t.c) i j (m.tight t.a ca) (m.tight t.b cb) (m.tight t.c cc)
 
   corner_above : IsAbove patch (lifted_heights old_heights induced.frst.order (length g.points)) t.a t.b t.c p
   corner_above = record { s = r.0; t = r.1; lies = r.2; above = above }

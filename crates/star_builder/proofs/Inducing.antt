@@ -1,7 +1,7 @@
--- Each item of a two-face has a triple, and a star of heights that extend a choice induces it.
+-- Three points of a two-face have an area, as independent points do, and a fine triangulation of it has a triple.
 use Rattle.std.proofs.Common.{◌≡◌, ◌≢◌, ℕ, suc, ◌<◌, ◌≤◌, ◌⊎◌, inl, inr, refl, sym, ap, ◌∙◌, subst, arith, ℤ, pos, List, length}
 use Rattle.std.specs.Prelude.{Contains}
-use Rattle.ntfe_nums.specs.Vectors.{Vector, dot, area}
+use Rattle.ntfe_nums.specs.Vectors.{Vector, dot, area, det4}
 use Rattle.ntfe_model.proofs.Lists.{Contains-map, Contains-from_map}
 use Rattle.ntfe_model.specs.Reflexive.{IsTight}
 use Rattle.ntfe_model.specs.Pairs.{entry}
@@ -9,16 +9,14 @@ use Rattle.ntfe_model.specs.Points.{place_of_point, MeetInTwoFace}
 use Rattle.ntfe_model.specs.Shapes.{Shape, IsShape, face_at}
 use Rattle.ntfe_model.specs.Charts.{Spot, patch_at, axes, axis_pairs, place, IsOf}
 use Rattle.ntfe_model.specs.Triangulations.{IsFine}
-use Rattle.ntfe_model.specs.Choices.{Extends}
-use Rattle.ntfe_model.specs.Stars.{IsOrder, IsStar, Induces}
 use Rattle.ntfe_model.specs.declared.triangle.Triangle.{Triangle}
 use Rattle.ntfe_model.proofs.GeometryPoints.{numbers_of, point_small, point_within, point_place}
 use Rattle.ntfe_model.proofs.UnitTriples.{area_of}
-use Rattle.star_builder.proofs.FacetPoints.{vertex_number}
+use Rattle.star_builder.proofs.VertexPoints.{vertex_number}
 use Rattle.star_builder.proofs.FaceLevels.{face_apart}
-use Rattle.star_builder.proofs.LeastSlope.{face_is, tight_face_point}
+use Rattle.star_builder.proofs.FacePoints.{face_is, tight_face_point}
+use Rattle.star_builder.proofs.FacePlanes.{area_wedge, line_of_all}
 use Rattle.star_builder.proofs.FirstStep.{HaveArea, axes_span, step_exists}
-use Rattle.star_builder.proofs.StarTriples.{star_leaves}
 
 -- a pair of coordinates is one of the six
 pair_listed : (i j : ℕ) → 1 ≤ i → i < j → j ≤ 4 → Contains axis_pairs (i, j)
@@ -102,6 +100,19 @@ module _ (g : Shape) (s : IsShape g) (f : ℕ) (within : f < length g.faces) whe
           (spots_with_area m.span.0 m.a m.b m.c m.span.1 m.span.2 m.span.3 m.span.4
           (vertex_on_face m.a m.vertices.0 m.first.0 m.second.0) (vertex_on_face m.b m.vertices.1 m.first.1 m.second.1) (vertex_on_face m.c m.vertices.2 m.first.2 m.second.2)))
 
+  -- and so have all that are independent of some vector
+  pub independent_area : (a b c : ℕ) (d : Vector) → IsOf (patch_at g f) a → IsOf (patch_at g f) b → IsOf (patch_at g f) c
+      → det4 (place_of_point g.points a) (place_of_point g.points b) (place_of_point g.points c) d ≢ pos 0 → area_of (patch_at g f) a b c ≢ pos 0
+  independent_area a b c d oa ob oc independent z = by area_exists
+    where
+      level : ℕ → ℤ
+      level k = pos 0
+
+      by : HavePointsWithArea → ⊥
+      by (p, q, r, op, oq, os, n) =
+          n (area_wedge g s f within level p q r op oq os
+          ∙ line_of_all g s f within level a b c oa ob oc d independent (sym (area_wedge g s f within level a b c oa ob oc) ∙ z) p q r op oq os)
+
   -- a fine triangulation of it has a triple
   pub some_triple : (ts : List Triangle) → IsFine (patch_at g f) ts → (t : Triangle) × Contains ts t
   some_triple ts fine =
@@ -109,10 +120,3 @@ module _ (g : Shape) (s : IsShape g) (f : ℕ) (within : f < length g.faces) whe
       let e = step_exists (patch_at g f) (face_apart g s f within) (point_small g s f within) (suc (length g.points)) (λ p o. (let k = point_within g s f within p o in let l = k.1 in omega (arith, l))) r.0 r.1 r.2 r.3 r.4 r.5 r.6 in
       let side = ((fine.edge e.0 e.1).1 e.2).0 in
       (side.0, side.1)
-
--- the star of heights that extend a choice leaves the triples of its items
-pub star_induces : (g : Shape) (choice : List ℕ) (w : List ℤ) (order : List ℕ) (star : List (List ℕ)) → IsShape g → IsOrder (length g.points) order → Extends g w choice
-    → IsStar g.pair.dual g.points w order star → Induces g star choice
-star_induces g choice w order star s is_order extends is f within x item =
-    let t = some_triple g s f within x.triangles item.is.fine in
-    star_leaves g s f within x item.is.fine w (extends.lifts f within x item) order is_order star is t.0 t.1

@@ -15,7 +15,7 @@ use Rattle.star_builder.proofs.LowSimplices.{IsLow, IsGeneric, low_apart, low_mi
 use Rattle.star_builder.proofs.Rises.{gap, gap_multiple, rise, rise_gap, rise_first, rise_second, rise_third, rise_fourth, rise_exchange, through, volume}
 use Rattle.star_builder.proofs.Supports.{tight_points, tight_number, tight_on, in_tight, low_support}
 use Rattle.star_builder.proofs.Tilts.{IsTilted, tilt_about, keeps_zero}
-use Rattle.ntfe_nums.proofs.Signs.{negative_or, product_not_negative, same_or, square_not_negative, square_positive, zero_out, positive_product}
+use Rattle.ntfe_nums.proofs.Signs.{negative_or, product_not_negative, same_or, square_not_negative, square_positive, zero_out, positive_product, zero_not_negative}
 
 -- what is on the side of z lies, as z does, on the other side of v
 across : (v z y : ℤ) → (v *ℤ z) <ℤ pos 0 → pos 0 <ℤ (z *ℤ y) → (v *ℤ y) <ℤ pos 0
@@ -68,11 +68,8 @@ module _ (xs : List Point) (v : ℕ → ℤ) (generic : IsGeneric xs v) (m : Vec
       above : (y z : ℤ) → y ≡ z → pos 0 <ℤ y → pos 0 ≤ℤ z
       above y z e l = omega (arith, ints, e, l)
 
-      not_below : (z : ℤ) → z ≡ pos 0 → pos 0 ≤ℤ z
-      not_below z e = omega (arith, ints, e)
-
       level : (k : ℕ) → rise at v a b c d k ≡ pos 0 → x ≡ k → pos 0 ≤ℤ gap at v (volume at v a b c d *ℤ volume at v a b c d) (multiple (volume at v a b c d) (through at v a b c d)) x
-      level k z e = not_below (higher x) (higher_none x (ap (rise at v a b c d) e ∙ z))
+      level k z e = zero_not_negative (higher x) (higher_none x (ap (rise at v a b c d) e ∙ z))
 
   -- some point lies beyond the ridge, so there is a low simplex on that side
   pub beyond_ridge : (z : ℕ) → Contains (tight_points m xs) z → (det *ℤ volume at v a b c z) <ℤ pos 0

@@ -1,14 +1,12 @@
 -- Among the numbers below n with a property that is decided, one that comes first in a total order of them.
-use Rattle.std.proofs.Common.{◌≡◌, ℕ, zero, suc, ◌<◌, ◌⊎◌, inl, inr, ⊎_elim, sym, subst, arith}
+use Rattle.std.proofs.Common.{ℕ, zero, suc, ◌<◌, ◌⊎◌, inl, inr, ⊎_elim, sym, subst, arith}
 use Rattle.ntfe_model.proofs.Triples.{Decided}
+use Rattle.star_builder.proofs.Decisions.{split_last}
 
 module _ (C : ℕ → Type 0) (R : ℕ → ℕ → Type 0) (decide : (p : ℕ) → Decided (C p)) (total : (p q : ℕ) → C p → C q → R p q ⊎ R q p)
     (chain : (p q r : ℕ) → C p → C q → C r → R p q → R q r → R p r) where
   abbrev pub IsFound : ℕ → Type 0
   IsFound n = ((k : ℕ) → k < n → C k → ⊥) ⊎ ((d : ℕ) × C d × ((k : ℕ) → k < n → C k → R d k))
-
-  split : (k n : ℕ) → k < suc n → (k < n) ⊎ (k ≡ n)
-  split k n l = grind (arith, l)
 
   itself : (p : ℕ) → C p → R p p
   itself p c = ⊎_elim (λ r. r) (λ r. r) (total p p c c)
@@ -18,13 +16,13 @@ module _ (C : ℕ → Type 0) (R : ℕ → ℕ → Type 0) (decide : (p : ℕ) �
   least_of (suc n) = by (least_of n) (decide n)
     where
       none : ((k : ℕ) → k < n → C k → ⊥) → (C n → ⊥) → (k : ℕ) → k < suc n → C k → ⊥
-      none f g k l c = ⊎_elim (λ m. f k m c) (λ e. g (subst C e c)) (split k n l)
+      none f g k l c = ⊎_elim (λ m. f k m c) (λ e. g (subst C e c)) (split_last k n l)
 
       first : ((k : ℕ) → k < n → C k → ⊥) → C n → (k : ℕ) → k < suc n → C k → R n k
-      first f g k l c = ⊎_elim (λ m. absurd (f k m c)) (λ e. (let P : ℕ → Type 0 = R n in subst P (sym e) (itself n g))) (split k n l)
+      first f g k l c = ⊎_elim (λ m. absurd (f k m c)) (λ e. (let P : ℕ → Type 0 = R n in subst P (sym e) (itself n g))) (split_last k n l)
 
       kept : (d : ℕ) → ((k : ℕ) → k < n → C k → R d k) → (C n → R d n) → (k : ℕ) → k < suc n → C k → R d k
-      kept d f g k l c = ⊎_elim (λ m. f k m c) (λ e. (let P : ℕ → Type 0 = R d in subst P (sym e) (g (subst C e c)))) (split k n l)
+      kept d f g k l c = ⊎_elim (λ m. f k m c) (λ e. (let P : ℕ → Type 0 = R d in subst P (sym e) (g (subst C e c)))) (split_last k n l)
 
       pick : (d : ℕ) → C d → ((k : ℕ) → k < n → C k → R d k) → C n → R d n ⊎ R n d → IsFound (suc n)
       pick d c f g (inl r) = inr (d, c, kept d f (λ i. r))

@@ -1,33 +1,25 @@
 -- The triples that a star leaves on a two-face as a list, and a triangulation with these triples.
 --     left_triples      the list
 --     fine_leaves      the star leaves any triangulation that has the triples of the list
-use Rattle.std.proofs.Common.{◌≡◌, ◌≢◌, ℕ, zero, suc, ◌<◌, ◌⊎◌, inl, inr, ⊎_elim, refl, sym, ap, ◌∙◌, subst, arith, ℤ, pos, negsuc, ◌<ℤ◌, neg_ℤ, List, [], ◌∷◌, map, length}
+use Rattle.std.proofs.Common.{◌≡◌, ℕ, ◌<◌, inl, inr, ⊎_elim, sym, subst, arith, pos, ◌<ℤ◌, List, [], ◌∷◌, map, length}
 use Rattle.std.specs.Prelude.{Contains, flat_map, ◌↔◌}
-use Rattle.std.proofs.lemmas.Int.{ints}
 use Rattle.ntfe_model.proofs.Lists.{Contains-map}
-use Rattle.ntfe_model.specs.Pairs.{entry}
-use Rattle.ntfe_model.specs.Points.{place_of_point}
 use Rattle.ntfe_model.specs.Shapes.{Shape, IsShape}
-use Rattle.ntfe_model.specs.Charts.{Patch, patch_at, axes, place, spot_numbers, turn, IsOf}
+use Rattle.ntfe_model.specs.Charts.{Patch, patch_at, spot_numbers, turn, IsOf}
 use Rattle.ntfe_model.specs.Triangulations.{IsRotationOf, IsTripleOf, IsFine}
-use Rattle.ntfe_model.specs.Stars.{IsMember, IsFrst, IsLeft, AreTogether, AreCorners, Leaves}
+use Rattle.ntfe_model.specs.Stars.{IsFrst, IsLeft, AreTogether, AreCorners, Leaves}
 use Rattle.ntfe_model.specs.declared.triangle.Triangle.{Triangle}
 use Rattle.ntfe_model.specs.declared.triangulation.Triangulation.{Triangulation}
 use Rattle.ntfe_model.proofs.FoldPlanes.{at_corner}
 use Rattle.ntfe_model.proofs.Listings.{Contains-here, Contains-there, Contains-cases, Contains-none, Contains-flat_map}
-use Rattle.ntfe_model.proofs.PlaneNumbers.{area_swap, area_turn, sign_positive}
-use Rattle.ntfe_model.proofs.Triples.{Decided, decide_listed, decide_both, decide_all3, same_self, corner_same}
+use Rattle.ntfe_model.proofs.PlaneNumbers.{sign_positive}
+use Rattle.ntfe_model.proofs.Triples.{Decided, decide_both, decide_all3, same_self, corner_same, decide_integer, decide_listed}
 use Rattle.ntfe_model.proofs.UnitTriples.{area_of}
-use Rattle.star_builder.proofs.BeyondMembers.{star_member}
-use Rattle.star_builder.proofs.FaceLevels.{face_area}
-use Rattle.star_builder.proofs.FacetPoints.{decide_equal}
+use Rattle.star_builder.proofs.CentreTriples.{area_odd}
+use Rattle.star_builder.proofs.FaceTriples.{together_area}
+use Rattle.star_builder.proofs.Decisions.{decide_less, two_signs}
 use Rattle.star_builder.proofs.FineRestrictions.{restriction_fine}
-use Rattle.star_builder.proofs.Inducing.{some_triple}
-use Rattle.star_builder.proofs.LowSimplices.{IsLow, member_low}
-use Rattle.star_builder.proofs.Ridges.{shares_ridge}
 use Rattle.star_builder.proofs.Searches.{some_or_all}
-use Rattle.star_builder.proofs.VertexPoints.{point_small}
-use Rattle.star_builder.proofs.WholeHeights.{whole}
 
 -- ---- what is decided, entry by entry
 
@@ -56,15 +48,6 @@ kept {A} P decide (z ∷ zs) = by (decide z) (kept P decide zs)
       record { sound = k.sound; complete = λ x c q. ⊎_elim (λ e. absurd (n (subst P e q))) (λ d. k.complete x d q) (Contains-cases x z zs c) },
     )
 
-decide_less : (j k : ℕ) → Decided (j < k)
-decide_less j k = ⊎_elim inl (λ l. inr (λ m. no l m)) (ways j k)
-  where
-    ways : (i j : ℕ) → (i < j) ⊎ (j < suc i)
-    ways i j = grind arith
-
-    no : k < suc j → j < k → ⊥
-    no l m = absurd (omega (arith, l, m))
-
 -- ---- the triples that are left
 
 module _ (h : Patch) (star : List (List ℕ)) where
@@ -76,7 +59,7 @@ module _ (h : Patch) (star : List (List ℕ)) where
   decide_left : (t : Triangle) → Decided (IsLeft h star t)
   decide_left t =
       by (decide_all3 (decide_listed (spot_numbers h) t.a) (decide_listed (spot_numbers h) t.b) (decide_listed (spot_numbers h) t.c)) (decide_together t.a t.b t.c)
-      (decide_equal (turn h t.a t.b t.c) (pos 1)) (decide_both (decide_less t.a t.b) (decide_less t.a t.c))
+      (decide_integer (turn h t.a t.b t.c) (pos 1)) (decide_both (decide_less t.a t.b) (decide_less t.a t.c))
     where
       by : Decided (IsOf h t.a × IsOf h t.b × IsOf h t.c) → Decided (AreTogether star t.a t.b t.c) → Decided (turn h t.a t.b t.c ≡ pos 1) → Decided ((t.a < t.b) × (t.a < t.c)) → Decided (IsLeft h star t)
       by (inl o) (inl m) (inl e) (inl l) = inl (record { points = o; together = m; turned = e; least = l })
@@ -106,37 +89,12 @@ module _ (h : Patch) (star : List (List ℕ)) where
 
 -- ---- a triangulation with these triples
 
-two_signs : (z : ℤ) → z ≢ pos 0 → (pos 0 <ℤ z) ⊎ (pos 0 <ℤ neg_ℤ z)
-two_signs (pos zero) n = absurd (n refl)
-two_signs (pos (suc k)) n = inl (omega (arith, ints))
-two_signs (negsuc k) n = inr (omega (arith, ints))
-
 module _ (g : Shape) (s : IsShape g) (star : List (List ℕ)) (frst : IsFrst g.pair.dual g.points star) (f : ℕ) (within : f < length g.faces) (ts : List Triangle)
     (left : AreLeftTriples (patch_at g f) star ts) where
   pub left_fine : IsFine (patch_at g f) ts
   left_fine = restriction_fine g s star frst f within ts left.sound left.complete
 
   module _ (x : Triangulation) (same : (t : Triangle) → IsTripleOf ts t ↔ IsTripleOf x.triangles t) where
-    -- points that stand together in a member have an area
-    together_area : (a b c : ℕ) → a < b → b < c → IsOf (patch_at g f) a → IsOf (patch_at g f) b → IsOf (patch_at g f) c → AreTogether star a b c → area_of (patch_at g f) a b c ≢ pos 0
-    together_area a b c ab bc oa ob oc (members, within_star, ha, hb, hc) =
-        face_area g s f within t.0 (left_fine.unit t.0 t.1) a b c (place_of_point g.points low.0) oa ob oc low.1.independent
-      where
-        t : (t : Triangle) × Contains ts t
-        t = some_triple g s f within ts left_fine
-
-        m : IsMember g.pair.dual g.points frst.heights frst.order members
-        m = star_member g frst.heights frst.order star s frst.order_of_all frst.is members within_star
-
-        named : (k : ℕ) → Contains members k → Contains (m.a ∷ m.b ∷ m.c ∷ m.d ∷ []) k
-        named k h = subst (λ (ks : List ℕ). Contains ks k) m.is h
-
-        low : (e : ℕ) × IsLow g.points (whole frst.heights frst.order) (entry g.pair.dual m.facet) a b c e
-        low =
-            (let r = shares_ridge g.points (whole frst.heights frst.order) (entry g.pair.dual m.facet) m.a m.b m.c m.d m.ordered.1 m.ordered.2 m.ordered.3
-            (member_low g.pair.dual g.points frst.heights frst.order frst.order_of_all (point_small g s) members m) a b c ab bc (named a ha) (named b hb) (named c hc) in
-            (r.0, r.1))
-
     -- what is left is in the triangulation
     left_corners : (t : Triangle) → IsLeft (patch_at g f) star t → (u : Triangle) × Contains x.triangles u × IsRotationOf u t.a t.b t.c
     left_corners t l = (let r = (same t).0 (t, left.complete t l, same_self t) in (r.0, r.1, r.2))
@@ -145,16 +103,11 @@ module _ (g : Shape) (s : IsShape g) (star : List (List ℕ)) (frst : IsFrst g.p
     together_corners a b c ab bc oa ob oc m =
         ⊎_elim
         (λ l. (let r = left_corners (record { a = a; b = b; c = c }) (record { points = (oa, ob, oc); together = m; turned = sign_positive (area_of (patch_at g f) a b c) l; least = (ab, below) }) in (r.0, r.1, inl r.2)))
-        (λ l. (let r = left_corners (record { a = a; b = c; c = b }) (record { points = (oa, oc, ob); together = (m.0, m.1, m.2, m.4, m.3); turned = sign_positive (area_of (patch_at g f) a c b) (subst (λ z. pos 0 <ℤ z) (sym turned) l); least = (below, ab) }) in (r.0, r.1, inr r.2)))
-        (two_signs (area_of (patch_at g f) a b c) (together_area a b c ab bc oa ob oc m))
+        (λ l. (let r = left_corners (record { a = a; b = c; c = b }) (record { points = (oa, oc, ob); together = (m.0, m.1, m.2, m.4, m.3); turned = sign_positive (area_of (patch_at g f) a c b) (subst (λ z. pos 0 <ℤ z) (sym (area_odd (patch_at g f) a b c)) l); least = (below, ab) }) in (r.0, r.1, inr r.2)))
+        (two_signs (area_of (patch_at g f) a b c) (together_area g s frst.heights frst.order frst.order_of_all star frst.is f within a b c oa ob oc ab bc m))
       where
         below : a < c
         below = omega (arith, ab, bc)
-
-        turned : area_of (patch_at g f) a c b ≡ neg_ℤ (area_of (patch_at g f) a b c)
-        turned =
-            area_swap (axes (patch_at g f)) (place (patch_at g f) c) (place (patch_at g f) a) (place (patch_at g f) b)
-            ∙ ap neg_ℤ (sym (area_turn (axes (patch_at g f)) (place (patch_at g f) c) (place (patch_at g f) a) (place (patch_at g f) b)))
 
     corner_together : (t : Triangle) → Contains x.triangles t → (a b c : ℕ) → IsRotationOf t a b c → AreTogether star a b c
     corner_together t i a b c r =

@@ -47,6 +47,18 @@ has_third a b c d = Contains-there c a (b ∷ c ∷ d ∷ []) (Contains-there c 
 pub has_fourth : (a b c d : ℕ) → Contains (a ∷ b ∷ c ∷ d ∷ []) d
 has_fourth a b c d = Contains-there d a (b ∷ c ∷ d ∷ []) (Contains-there d b (c ∷ d ∷ []) (Contains-there d c (d ∷ []) (Contains-here d d [] refl)))
 
+-- what is not one of four is none of them
+pub none_of_four : (a b c d p : ℕ) → ¬ (Contains (a ∷ b ∷ c ∷ d ∷ []) p) → (p ≢ a) × (p ≢ b) × (p ≢ c) × (p ≢ d)
+none_of_four a b c d p out = (
+  (λ e. out (named a e (has_first a b c d))),
+  (λ e. out (named b e (has_second a b c d))),
+  (λ e. out (named c e (has_third a b c d))),
+  (λ e. out (named d e (has_fourth a b c d))),
+)
+  where
+    named : (k : ℕ) → p ≡ k → Contains (a ∷ b ∷ c ∷ d ∷ []) k → Contains (a ∷ b ∷ c ∷ d ∷ []) p
+    named k e h = subst (λ j. Contains (a ∷ b ∷ c ∷ d ∷ []) j) (sym e) h
+
 -- ---- four points above which the others rise
 
 pub record IsLow (xs : List Point) (v : ℕ → ℤ) (m : Vector) (a b c d : ℕ) : Type 0 where
@@ -159,24 +171,21 @@ module _ (ms : List Vector) (xs : List Point) (w : List ℤ) (order : List ℕ) 
     number = number;
     tight = low_tight xs heights (entry ms facet) a b c d l;
     independent = l.independent;
-    others = λ p n out t. others p n (λ e. out (named p a e (has_first a b c d))) (λ e. out (named p b e (has_second a b c d))) (λ e. out (named p c e (has_third a b c d))) (λ e. out (named p d e (has_fourth a b c d))) t;
+    others = λ p n out t. let o = none_of_four a b c d p out in others p n o.0 o.1 o.2 o.3 t;
   }
     where
-      named : (p k : ℕ) → p ≡ k → Contains (a ∷ b ∷ c ∷ d ∷ []) k → Contains (a ∷ b ∷ c ∷ d ∷ []) p
-      named p k e h = subst (λ j. Contains (a ∷ b ∷ c ∷ d ∷ []) j) (sym e) h
-
       others : (p : ℕ) → IsNumberOf xs p → p ≢ a → p ≢ b → p ≢ c → p ≢ d → IsTight (entry ms facet) (place_of_point xs p) → IsLexAbove xs w order a b c d p
       others p n pa pb pc pd t =
-          rises_lex w order xs a b c d p (volume_five xs heights (entry ms facet) a b c d p l.independent pa pb pc pd) (in_order p n)
-          (small a l.numbers.0) (small b l.numbers.1) (small c l.numbers.2) (small d l.numbers.3) (small p n) l.independent (l.above p n pa pb pc pd t)
+          rises_lex w order xs a b c d p l.independent (volume_five xs heights (entry ms facet) a b c d p l.independent pa pb pc pd) (in_order p n)
+          (small a l.numbers.0) (small b l.numbers.1) (small c l.numbers.2) (small d l.numbers.3) (small p n) (l.above p n pa pb pc pd t)
 
   pub member_low : (members : List ℕ) (r : IsMember ms xs w order members) → IsLow xs heights (entry ms r.facet) r.a r.b r.c r.d
   member_low members r = record {
     numbers = (na, nb, nc, nd);
     tight = (r.tight r.a (named r.a (has_first r.a r.b r.c r.d)), r.tight r.b (named r.b (has_second r.a r.b r.c r.d)), r.tight r.c (named r.c (has_third r.a r.b r.c r.d)), r.tight r.d (named r.d (has_fourth r.a r.b r.c r.d)));
     independent = r.independent;
-    above = λ p n pa pb pc pd t. lex_rises w order xs r.a r.b r.c r.d p (volume_five xs heights (entry ms r.facet) r.a r.b r.c r.d p r.independent pa pb pc pd) (in_order p n)
-        (small r.a na) (small r.b nb) (small r.c nc) (small r.d nd) (small p n) r.independent (r.others p n (outside p pa pb pc pd) t);
+    above = λ p n pa pb pc pd t. lex_rises w order xs r.a r.b r.c r.d p r.independent (volume_five xs heights (entry ms r.facet) r.a r.b r.c r.d p r.independent pa pb pc pd) (in_order p n)
+        (small r.a na) (small r.b nb) (small r.c nc) (small r.d nd) (small p n) (r.others p n (outside p pa pb pc pd) t);
   }
     where
       na : IsNumberOf xs r.a
@@ -199,5 +208,5 @@ module _ (ms : List Vector) (xs : List Point) (w : List ℤ) (order : List ℕ) 
 
   pub generic : IsGeneric xs heights
   generic a b c d p na nb nc nd np pa pb pc pd independent =
-      never_level w order xs a b c d p (volume_five xs heights (place_of_point xs a) a b c d p independent pa pb pc pd) (in_order p np)
-      (small a na) (small b nb) (small c nc) (small d nd) (small p np) independent
+      never_level w order xs a b c d p independent (volume_five xs heights (place_of_point xs a) a b c d p independent pa pb pc pd) (in_order p np)
+      (small a na) (small b nb) (small c nc) (small d nd) (small p np)

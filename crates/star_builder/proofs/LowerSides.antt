@@ -7,8 +7,8 @@ use Rattle.ntfe_nums.proofs.Ring.{Expression, ring}
 use Rattle.ntfe_nums.proofs.Ring.Expression.{var, num, plus, minus, times}
 use Rattle.ntfe_model.specs.Triangulations.{HaveSameEnds}
 use Rattle.ntfe_model.proofs.PlaneNumbers.{zero_factor}
-use Rattle.star_builder.proofs.Planar.{wedge, lift, IsLower, lower_over, not_both, wedgeE, liftE, wedge_outer, wedge_last}
-use Rattle.ntfe_nums.proofs.Signs.{product_not_negative, factor_not_negative, same_or, sum_not_negative}
+use Rattle.star_builder.proofs.Planar.{wedge, lift, IsLower, lower_over, wedgeE, liftE, wedge_outer, wedge_last}
+use Rattle.ntfe_nums.proofs.Signs.{product_not_negative, factor_not_negative, same_or, sum_not_negative, positive_some}
 
 -- ---- numbers
 
@@ -94,12 +94,12 @@ module _ (X Y v : ℕ → ℤ) where
         corner : (p : ℕ) → On p → (t : ℤ) → t *ℤ lift X Y v a b e p ≡ pos 0 → (t ≡ pos 0) ⊎ ((p ≡ a) ⊎ ((p ≡ b) ⊎ (p ≡ e)))
         corner p o t z =
             ⊎_elim (λ k. inr (inl k)) (λ pa. ⊎_elim (λ k. inr (inr (inl k))) (λ pb. ⊎_elim (λ k. inr (inr (inr k)))
-            (λ pe. ⊎_elim inl (λ k. absurd (not_both (lift X Y v a b e p) (l.above p o pa pb pe) k)) (zero_factor t (lift X Y v a b e p) z)) (same_or p e)) (same_or p b)) (same_or p a)
+            (λ pe. ⊎_elim inl (λ k. absurd (positive_some (lift X Y v a b e p) (l.above p o pa pb pe) k)) (zero_factor t (lift X Y v a b e p) z)) (same_or p e)) (same_or p b)) (same_or p a)
 
         -- the third corner has weight 0, where the other is on the side
         third : (p r : ℕ) (t u : ℤ) → t *ℤ wedge X Y v a b p +ℤ u *ℤ wedge X Y v a b r ≡ pos 0 → p ≡ e → wedge X Y v a b r ≡ pos 0 → t ≡ pos 0
         third p r t u z i f =
-            ⊎_elim (λ k. k) (λ k. absurd (not_both (wedge X Y v a b e) l.left k))
+            ⊎_elim (λ k. k) (λ k. absurd (positive_some (wedge X Y v a b e) l.left k))
             (zero_factor t (wedge X Y v a b e) (by (t *ℤ wedge X Y v a b p) u (wedge X Y v a b r) (t *ℤ wedge X Y v a b e) z f (ap (λ k. t *ℤ wedge X Y v a b k) i)))
           where
             by : (q u w r : ℤ) → q +ℤ u *ℤ w ≡ pos 0 → w ≡ pos 0 → q ≡ r → r ≡ pos 0

@@ -14,22 +14,17 @@ use Rattle.ntfe_model.specs.Stars.{IsFirstPositive, IsLexAbove, push_coefficient
 use Rattle.ntfe_model.specs.declared.point.Point.{Point}
 use Rattle.ntfe_model.proofs.PlaneNumbers.{zero_factor, positive_factor}
 use Rattle.star_builder.proofs.FourPoints.{one_at, one_here, one_elsewhere, combined, vectors_combined, in_four, combined_one, spread, combined_spread, factors_fixed}
+use Rattle.ntfe_nums.proofs.Signs.{positive_same, positive_some}
 
 -- ---- multiples of a list
 
 -- a positive divisor leaves the first number positive
 pub first_divided : (size : ℤ) → pos 0 <ℤ size → (f g : ℕ → ℤ) → ((m : ℕ) → f m ≡ g m *ℤ size) → (ks : List ℕ) (y z : ℤ) → y ≡ z *ℤ size
     → IsFirstPositive (y ∷ map f ks) → IsFirstPositive (z ∷ map g ks)
-first_divided size above f g same ks y z e (inl l) = inl (positive_factor z size above (less y (z *ℤ size) e l))
-  where
-    less : (u v : ℤ) → u ≡ v → pos 0 <ℤ u → pos 0 <ℤ v
-    less u v q m = omega (arith, ints, q, m)
+first_divided size above f g same ks y z e (inl l) = inl (positive_factor z size above (positive_same y (z *ℤ size) e l))
 first_divided size above f g same [] y z e (inr (q, none)) = absurd none
 first_divided size above f g same (k ∷ ks) y z e (inr (q, rest)) =
-    inr (⊎_elim (λ r. r) (λ r. absurd (no size above r)) (zero_factor z size (sym e ∙ q)), first_divided size above f g same ks (f k) (g k) (same k) rest)
-  where
-    no : (u : ℤ) → pos 0 <ℤ u → u ≡ pos 0 → ⊥
-    no u l r = absurd (omega (arith, ints, l, r))
+    inr (⊎_elim (λ r. r) (λ r. absurd (positive_some size above r)) (zero_factor z size (sym e ∙ q)), first_divided size above f g same ks (f k) (g k) (same k) rest)
 
 -- the size of a number that is not 0
 pub size_positive : (d size : ℤ) → d ≢ pos 0 → size ≡ pos (unsigned_abs d) → pos 0 <ℤ size
@@ -105,7 +100,7 @@ module _ (xs : List Point) (a b c d i j k p : ℕ) (x y z : ℤ) (ab : a < b) (b
       by (inr (inr (inl e))) = no c e fixed.2
       by (inr (inr (inr e))) = no d e fixed.3
 
-  -- the multipliers of the mixture are size times the shares
+  -- the multipliers of the combination are size times the shares
   multipliers : (size l1 l2 l3 l4 : ℤ)
       → multiple size (place_of_point xs p) ≡ vector_sum (multiple l1 (place_of_point xs a)) (vector_sum (multiple l2 (place_of_point xs b)) (vector_sum (multiple l3 (place_of_point xs c)) (multiple l4 (place_of_point xs d))))
       → (l1 ≡ share a *ℤ size) × (l2 ≡ share b *ℤ size) × (l3 ≡ share c *ℤ size) × (l4 ≡ share d *ℤ size)
@@ -165,8 +160,8 @@ module _ (xs : List Point) (a b c d i j k p : ℕ) (x y z : ℤ) (ab : a < b) (b
   pub form_leads : (w : List ℤ) (order : List ℕ) → IsLexAbove xs w order a b c d p
       → IsFirstPositive ((height w p -ℤ (x *ℤ height w i +ℤ y *ℤ height w j +ℤ z *ℤ height w k)) ∷ map (form p i j k x y z) order)
   form_leads w order r =
-      let e = multipliers r.size r.l1 r.l2 r.l3 r.l4 r.mixture.mix in
-      first_divided r.size (size_positive (det4 (place_of_point xs a) (place_of_point xs b) (place_of_point xs c) (place_of_point xs d)) r.size independent r.mixture.size_is)
+      let e = multipliers r.size r.l1 r.l2 r.l3 r.l4 r.combination.mix in
+      first_divided r.size (size_positive (det4 (place_of_point xs a) (place_of_point xs b) (place_of_point xs c) (place_of_point xs d)) r.size independent r.combination.size_is)
       (push_coefficient r.size (a, r.l1) (b, r.l2) (c, r.l3) (d, r.l4) p) (form p i j k x y z)
       (λ m. (λ t. push_coefficient r.size (a, e.0 t) (b, e.1 t) (c, e.2 t) (d, e.3 t) p m) ∙ divided_coefficient r.size m)
       order _ _

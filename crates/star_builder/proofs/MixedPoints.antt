@@ -1,4 +1,4 @@
--- A whole vector that is a mixture of three points of a two-face, with weights that are not negative, is a point of the two-face.
+-- A whole vector that is a combination of three points of a two-face, with weights that are not negative, is a point of the two-face.
 --     mixed_point      its number
 use Rattle.std.proofs.Common.{◌≡◌, ℕ, suc, ◌-◌, ◌<◌, ◌⊎◌, inl, inr, ⊎_elim, refl, sym, ap, ◌∙◌, arith, ℤ, pos, negsuc, ◌+ℤ◌, ◌-ℤ◌, ◌*ℤ◌, ◌<ℤ◌, ◌≤ℤ◌, List, [], ◌∷◌, length, get_or}
 use Rattle.std.specs.Prelude.{Contains, Any}
@@ -17,11 +17,12 @@ use Rattle.ntfe_model.specs.Charts.{patch_at, IsOf}
 use Rattle.ntfe_model.specs.declared.point.Point.{Point}
 use Rattle.ntfe_model.proofs.GeometryPoints.{point_within}
 use Rattle.ntfe_model.proofs.Listings.{Contains-filter, listing_range}
-use Rattle.star_builder.proofs.FourWeights.{IsMixOf, dot_mix, cancel_other}
-use Rattle.star_builder.proofs.FacetPoints.{int_eq_to, two_members}
-use Rattle.star_builder.proofs.LeastSlope.{face_is, face_point_tight, tight_face_point, number_first, number_second}
-use Rattle.star_builder.proofs.Planar.{not_both}
-use Rattle.ntfe_nums.proofs.Signs.{negative_or, product_not_negative}
+use Rattle.ntfe_model.proofs.PlaneNumbers.{cancel_other}
+use Rattle.star_builder.proofs.FourWeights.{IsMixOf, dot_mix}
+use Rattle.star_builder.proofs.FacetPoints.{int_eq_to}
+use Rattle.star_builder.proofs.VertexPoints.{two_members}
+use Rattle.star_builder.proofs.FacePoints.{face_is, face_point_tight, tight_face_point, number_first, number_second}
+use Rattle.ntfe_nums.proofs.Signs.{negative_or, product_not_negative, positive_some}
 use Rattle.star_builder.proofs.UsedPoints.{three_weights}
 
 -- ---- numbers
@@ -118,7 +119,7 @@ module _ (g : Shape) (s : IsShape g) (f : ℕ) (within : f < length g.faces) (a 
     high4 = high_side (λ v. v.x4) (ap (λ v. v.x4) mix) (λ p o. (point_of p o).inside.box.high4);
   }
 
-  -- the form is at least -1 on a mixture
+  -- the form is at least -1 on a combination
   form_low : (m : Vector) → negsuc 0 ≤ℤ dot m (spot a) → negsuc 0 ≤ℤ dot m (spot b) → negsuc 0 ≤ℤ dot m (spot c) → negsuc 0 ≤ℤ dot m u
   form_low m i j n =
       ⊎_elim (λ l. longer _ _ i l) (λ q. ⊎_elim (λ l. longer _ _ j l) (λ l. longer _ _ n l) q)
@@ -129,7 +130,7 @@ module _ (g : Shape) (s : IsShape g) (f : ℕ) (within : f < length g.faces) (a 
 
   tight_mix : (m : Vector) → IsTight m (spot a) → IsTight m (spot b) → IsTight m (spot c) → IsTight m u
   tight_mix m ta tb tc =
-      cancel_other (dot m u) (negsuc 0) k (λ e. not_both k positive e)
+      cancel_other (dot m u) (negsuc 0) k (λ e. positive_some k positive e)
       (ring (k ∷ dot m u ∷ []) (times (var 1) (var 0)) (times (var 0) (var 1)) refl
       ∙ dot_mix m (three_weights k l1 l2 l3) (spot a) (spot b) (spot c) d u mix
       ∙ (λ i. l1 *ℤ ta i +ℤ (l2 *ℤ tb i +ℤ (l3 *ℤ tc i +ℤ pos 0 *ℤ dot m d)))

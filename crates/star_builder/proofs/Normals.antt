@@ -1,24 +1,15 @@
 -- A linear form is fixed by its values at four independent vectors.
 --     form_fixed      two forms with the same values there have the same values everywhere
 --     normal_fixed      and are equal
-use Rattle.std.proofs.Common.{◌≡◌, ◌≢◌, refl, sym, ◌∙◌, arith, ℤ, pos, ◌+ℤ◌, ◌-ℤ◌, ◌*ℤ◌, [], ◌∷◌, ⊎_elim}
+use Rattle.std.proofs.Common.{◌≡◌, ◌≢◌, sym, ◌∙◌, arith, ℤ, pos, ◌+ℤ◌, ◌*ℤ◌}
 use Rattle.std.proofs.lemmas.Int.{ints}
 use Rattle.ntfe_nums.specs.Vectors.{Vector, dot, det4}
-use Rattle.ntfe_nums.proofs.Ring.{ring}
-use Rattle.ntfe_nums.proofs.Ring.Expression.{var, minus, times}
-use Rattle.ntfe_model.proofs.PlaneNumbers.{zero_factor}
+use Rattle.ntfe_model.proofs.PlaneNumbers.{cancel_other}
+use Rattle.ntfe_nums.proofs.Signs.{product_exchanged}
 use Rattle.ntfe_nums.proofs.Exchanges.{cramer_form}
 
 pub cancel_factor : (k x y : ℤ) → k ≢ pos 0 → k *ℤ x ≡ k *ℤ y → x ≡ y
-cancel_factor k x y n e =
-    ⊎_elim (λ z. absurd (n z)) (same x y)
-    (zero_factor k (x -ℤ y) (ring (k ∷ x ∷ y ∷ []) (times (var 0) (minus (var 1) (var 2))) (minus (times (var 0) (var 1)) (times (var 0) (var 2))) refl ∙ none (k *ℤ x) (k *ℤ y) e))
-  where
-    none : (u v : ℤ) → u ≡ v → u -ℤ v ≡ pos 0
-    none u v q = omega (arith, ints, q)
-
-    same : (u v : ℤ) → u -ℤ v ≡ pos 0 → u ≡ v
-    same u v q = omega (arith, ints, q)
+cancel_factor k x y n e = cancel_other x y k n (product_exchanged x k ∙ e ∙ product_exchanged k y)
 
 module _ (m n a b c d : Vector) (independent : det4 a b c d ≢ pos 0) (ea : dot m a ≡ dot n a) (eb : dot m b ≡ dot n b) (ec : dot m c ≡ dot n c) (ed : dot m d ≡ dot n d) where
   pub form_fixed : (p : Vector) → dot m p ≡ dot n p

@@ -19,8 +19,8 @@ use Rattle.star_builder.specs.declared.four.Four.{Four}
 use Rattle.star_builder.proofs.FourWeights.{Weights, dot_mix}
 use Rattle.star_builder.proofs.MemberLemmas.{has_first, has_second, has_third, has_fourth, same_first, same_second, same_third, same_fourth, member_independent}
 use Rattle.star_builder.proofs.MemberPlanes.{size_positive}
-use Rattle.star_builder.proofs.Mixtures.{turned, mixture_exists}
-use Rattle.ntfe_nums.proofs.Signs.{product_not_negative, product_not_positive}
+use Rattle.star_builder.proofs.Combinations.{turned, combination_exists}
+use Rattle.ntfe_nums.proofs.Signs.{product_not_negative, product_not_positive, not_negative}
 use Rattle.star_builder.proofs.VertexPoints.{number_point, point_small}
 use Rattle.star_builder.proofs.WholeHeights.{volume_bound, volume_small}
 
@@ -59,12 +59,9 @@ outweighed x1 x2 x3 x4 y z most b1 b2 b3 b4 by bz = omega (arith, ints, b1, b2, 
 multipliers_low : (m : Weights) (u a b c d p : Vector) → m.k *ℤ dot u p ≡ m.l1 *ℤ dot u a +ℤ (m.l2 *ℤ dot u b +ℤ (m.l3 *ℤ dot u c +ℤ m.l4 *ℤ dot u d))
     → pos 0 <ℤ m.k → IsTight u a → IsTight u b → IsTight u c → IsTight u d → pos 0 ≤ℤ dot u p → (m.l1 +ℤ m.l2 +ℤ m.l3 +ℤ m.l4) ≤ℤ pos 0
 multipliers_low m u a b c d p e l ta tb tc td h =
-    by (m.k *ℤ dot u p) m.l1 m.l2 m.l3 m.l4 (product_not_negative m.k (dot u p) (weaker m.k l) h)
+    by (m.k *ℤ dot u p) m.l1 m.l2 m.l3 m.l4 (product_not_negative m.k (dot u p) (not_negative m.k l) h)
     (e ∙ (λ i. m.l1 *ℤ ta i +ℤ (m.l2 *ℤ tb i +ℤ (m.l3 *ℤ tc i +ℤ m.l4 *ℤ td i))))
   where
-    weaker : (z : ℤ) → pos 0 <ℤ z → pos 0 ≤ℤ z
-    weaker z q = omega (arith, ints, q)
-
     by : (x l1 l2 l3 l4 : ℤ) → pos 0 ≤ℤ x → x ≡ l1 *ℤ negsuc 0 +ℤ (l2 *ℤ negsuc 0 +ℤ (l3 *ℤ negsuc 0 +ℤ l4 *ℤ negsuc 0)) → (l1 +ℤ l2 +ℤ l3 +ℤ l4) ≤ℤ pos 0
     by x l1 l2 l3 l4 q f = omega (arith, ints, q, f)
 
@@ -104,8 +101,8 @@ module _ (g : Shape) (w : List ℤ) (order : List ℕ) (a b c d p facet : ℕ) (
   independent : AreLinearlyIndependent (place a) (place b) (place c) (place d)
   independent = member_independent g.pair.dual g.points w order four member
 
-  not_negative : pos 0 ≤ℤ dot form (place p)
-  not_negative =
+  p_over : pos 0 ≤ℤ dot form (place p)
+  p_over =
       by (dot form (place p)) ((number_point g s p number).inside.hull (facet - 1) origin (let n = within.0 in let k = n.0 in let l = n.1 in omega (arith, k, l))) outside
     where
       by : (z : ℤ) → negsuc 0 ≤ℤ z → ¬ (z ≡ negsuc 0) → pos 0 ≤ℤ z
@@ -129,9 +126,9 @@ module _ (g : Shape) (w : List ℤ) (order : List ℕ) (a b c d p facet : ℕ) (
   sum_low : (weights.l1 +ℤ weights.l2 +ℤ weights.l3 +ℤ weights.l4) ≤ℤ pos 0
   sum_low =
       multipliers_low weights form (place a) (place b) (place c) (place d) (place p)
-      (dot_mix form weights (place a) (place b) (place c) (place d) (place p) (mixture_exists g.points a b c d p).mix)
+      (dot_mix form weights (place a) (place b) (place c) (place d) (place p) (combination_exists g.points a b c d p).mix)
       (size_positive volume weights.k independent refl)
-      (within.1 a (has_first four)) (within.1 b (has_second four)) (within.1 c (has_third four)) (within.1 d (has_fourth four)) not_negative
+      (within.1 a (has_first four)) (within.1 b (has_second four)) (within.1 c (has_third four)) (within.1 d (has_fourth four)) p_over
 
   -- a multiplier times a height is small
   term : (l : ℤ) (k : ℕ) → unsigned_abs l ≤ volume_bound → unsigned_abs (l *ℤ height w k) ≤ volume_bound * greatest_size w
@@ -161,4 +158,4 @@ module _ (g : Shape) (w : List ℤ) (order : List ℕ) (a b c d p facet : ℕ) (
       negative n = omega (arith, ints)
 
   pub origin_plane_low : IsAboveOriginPlane g.points w (origin_height w) a b c d p
-  origin_plane_low = record { l1 = weights.l1; l2 = weights.l2; l3 = weights.l3; l4 = weights.l4; size = weights.k; mixture = mixture_exists g.points a b c d p; above = below }
+  origin_plane_low = record { l1 = weights.l1; l2 = weights.l2; l3 = weights.l3; l4 = weights.l4; size = weights.k; combination = combination_exists g.points a b c d p; above = below }

@@ -15,6 +15,7 @@ use Rattle.ntfe_model.specs.Pairs.{entry}
 use Rattle.ntfe_model.specs.Reflexive.{IsTight, at}
 use Rattle.ntfe_model.specs.Points.{place_of_point}
 use Rattle.ntfe_model.specs.Shapes.{Shape, IsShape}
+use Rattle.ntfe_model.proofs.Entries.{entry-at}
 use Rattle.ntfe_model.proofs.Listings.{listing_range}
 use Rattle.ntfe_nums.proofs.Exchanges.{same_first, same_second, same_third}
 use Rattle.star_builder.proofs.FacetMembers.{lifted_over}
@@ -23,7 +24,7 @@ use Rattle.star_builder.proofs.Hulls.{hull_over}
 use Rattle.star_builder.proofs.Rises.{gap}
 use Rattle.star_builder.proofs.Spanning.{spot, weight_of}
 use Rattle.star_builder.proofs.Supports.{tight_points, in_tight}
-use Rattle.star_builder.proofs.VertexPoints.{vertex_number, number_point, place_number}
+use Rattle.star_builder.proofs.VertexPoints.{vertex_number, number_point}
 use Rattle.star_builder.proofs.Searches.{some_or_all}
 use Rattle.ntfe_nums.proofs.Signs.{above_zero, product_not_negative, same_or, square_positive, zero_or, zero_out}
 
@@ -142,7 +143,7 @@ module _ (g : Shape) (s : IsShape g) (facet : ℕ) (number : IsNumberOf g.pair.d
       inside f h = ⊎_elim here there (same_or (h.0 + 1) facet)
         where
           named : entry g.pair.dual (h.0 + 1) ≡ f
-          named = place_number g.pair.dual h.0 ∙ get_or_default g.pair.dual h.0 origin f h.1 ∙ h.2
+          named = entry-at g.pair.dual h.0 ∙ get_or_default g.pair.dual h.0 origin f h.1 ∙ h.2
 
           here : h.0 + 1 ≡ facet → pos 0 ≤ℤ (pos 3 *ℤ (reach.0 +ℤ pos 1) +ℤ dot f (beyond (place_of_point g.points i) (place_of_point g.points j) (place_of_point g.points k) (place_of_point g.points without) (reach.0 +ℤ pos 1)))
           here e = by scale (dot f x) (ap (λ v. dot v x) (sym named ∙ ap (entry g.pair.dual) e) ∙ level)
@@ -181,7 +182,7 @@ module _ (g : Shape) (s : IsShape g) (facet : ℕ) (number : IsNumberOf g.pair.d
       -- a vertex of the facet is on the one side
       vertex_side : (v : Vector) → Contains g.pair.vertices v → IsTight m v → pos 0 ≤ℤ (det *ℤ dot ridge v)
       vertex_side v h e =
-          let r = vertex_number g s v h in
+          let r = vertex_number g.pair g.points s.reflexive s.points v h in
           subst (λ q. pos 0 ≤ℤ (det *ℤ q)) (ap (λ q. det4 (place i) (place j) (place k) q) r.2 ∙ det4-cofactors (place i) (place j) (place k) v)
           (one_side r.0 (in_tight m g.points r.0 r.1 (subst (λ q. IsTight m q) (sym r.2) e)))
 

@@ -6,17 +6,14 @@
 --     step_lower, reverse_lower      where a side has one
 use Rattle.std.proofs.Common.{◌≡◌, ◌≢◌, ℕ, suc, ◌<◌, ◌⊎◌, inl, inr, ⊎_elim, refl, sym, ap, ◌∙◌, subst, arith, ℤ, pos, negsuc, ◌+ℤ◌, ◌-ℤ◌, ◌*ℤ◌, ◌<ℤ◌, ◌≤ℤ◌, neg_ℤ, List, [], ◌∷◌}
 use Rattle.std.proofs.lemmas.Int.{ints}
-use Rattle.ntfe_nums.proofs.Ring.{Expression, ring}
+use Rattle.ntfe_nums.proofs.Ring.{Expression, ring, product_neg, neg_product}
 use Rattle.ntfe_nums.proofs.Ring.Expression.{var, num, plus, minus, times, neg}
 use Rattle.ntfe_model.proofs.PlaneNumbers.{positive_factor}
 use Rattle.ntfe_model.proofs.Triples.{Decided, decide_both}
 use Rattle.star_builder.proofs.Least.{least_with}
-use Rattle.ntfe_nums.proofs.Signs.{above_zero, factor_not_negative, product_not_negative, same_or, sign_of, positive_product, not_negative}
+use Rattle.ntfe_nums.proofs.Signs.{above_zero, factor_not_negative, product_not_negative, same_or, sign_of, positive_product, not_negative, positive_some, zero_not_negative, zero_between}
 
 -- ---- numbers
-
-pub not_both : (z : ℤ) → pos 0 <ℤ z → z ≡ pos 0 → ⊥
-not_both z l e = absurd (omega (arith, ints, l, e))
 
 pub opposite_signs : (y z : ℤ) → y ≡ neg_ℤ z → pos 0 <ℤ y → pos 0 <ℤ z → ⊥
 opposite_signs y z e k l = absurd (omega (arith, ints, e, k, l))
@@ -118,14 +115,8 @@ module _ (X Y v : ℕ → ℤ) where
     where
       by : (k x l y z : ℤ) → l *ℤ y ≡ k *ℤ x +ℤ z → k *ℤ neg_ℤ x ≡ neg_ℤ l *ℤ y +ℤ z
       by k x l y z e =
-          out k x ∙ move (k *ℤ x) (l *ℤ y) z e ∙ (λ i. sym (turned l y) i +ℤ z)
+          product_neg k x ∙ move (k *ℤ x) (l *ℤ y) z e ∙ (λ i. sym (neg_product l y) i +ℤ z)
         where
-          out : (k x : ℤ) → k *ℤ neg_ℤ x ≡ neg_ℤ (k *ℤ x)
-          out k x = ring (k ∷ x ∷ []) (times (var 0) (neg (var 1))) (neg (times (var 0) (var 1))) refl
-
-          turned : (k x : ℤ) → neg_ℤ k *ℤ x ≡ neg_ℤ (k *ℤ x)
-          turned k x = ring (k ∷ x ∷ []) (times (neg (var 0)) (var 1)) (neg (times (var 0) (var 1))) refl
-
           move : (q r z : ℤ) → r ≡ q +ℤ z → neg_ℤ q ≡ neg_ℤ r +ℤ z
           move q r z e = omega (arith, ints, e)
 
@@ -147,8 +138,8 @@ module _ (X Y v : ℕ → ℤ) where
     -- a point to the left of a side is none of its ends
     pub left_apart : (a b p : ℕ) → pos 0 <ℤ wedge a b p → (p ≢ a) × (p ≢ b)
     left_apart a b p l = (
-      (λ e. not_both (wedge a b p) l (ap (wedge a b) e ∙ wedge_outer a b)),
-      (λ e. not_both (wedge a b p) l (ap (wedge a b) e ∙ wedge_last a b)),
+      (λ e. positive_some (wedge a b p) l (ap (wedge a b) e ∙ wedge_outer a b)),
+      (λ e. positive_some (wedge a b p) l (ap (wedge a b) e ∙ wedge_last a b)),
     )
 
     -- no point lies below a lower triple
@@ -158,11 +149,8 @@ module _ (X Y v : ℕ → ℤ) where
         ⊎_elim (level b (lift_second a b c)) (λ nb.
         ⊎_elim (level c (lift_third a b c)) (λ nc. not_negative (lift a b c p) (l.above p o na nb nc)) (same_or p c)) (same_or p b)) (same_or p a)
       where
-        zero : (z : ℤ) → z ≡ pos 0 → pos 0 ≤ℤ z
-        zero z e = omega (arith, ints, e)
-
         level : (k : ℕ) → lift a b c k ≡ pos 0 → p ≡ k → pos 0 ≤ℤ lift a b c p
-        level k z e = zero (lift a b c p) (ap (lift a b c) e ∙ z)
+        level k z e = zero_not_negative (lift a b c p) (ap (lift a b c) e ∙ z)
 
     -- two lower triples on one side are one
     pub lower_once : (a b c d : ℕ) → IsLower a b c → IsLower a b d → c ≡ d
@@ -218,7 +206,7 @@ module _ (X Y v : ℕ → ℤ) where
                 point = on.0;
                 left = on.1;
                 least = λ p o n l. (let q = left_apart a b p l in
-                    above_zero (lift a b d p) (under p (below p o) (o, l)) (never_level a b d p oa ob on.0 o (λ e. not_both (wedge a b d) on.1 e) q.0 q.1 n));
+                    above_zero (lift a b d p) (under p (below p o) (o, l)) (never_level a b d p oa ob on.0 o (λ e. positive_some (wedge a b d) on.1 e) q.0 q.1 n));
               },
             )
 
@@ -234,12 +222,9 @@ module _ (X Y v : ℕ → ℤ) where
             record {
               points = (oa, ob, r.point);
               left = r.left;
-              above = λ p o pa pb pd. ⊎_elim (r.least p o pd) (λ l. line d p r.point r.left o pa pb (flat (wedge a b p) (outer p o) l)) (sign_of (wedge a b p));
+              above = λ p o pa pb pd. ⊎_elim (r.least p o pd) (λ l. line d p r.point r.left o pa pb (zero_between (wedge a b p) (outer p o) l)) (sign_of (wedge a b p));
             },
           )
-            where
-              flat : (z : ℤ) → pos 0 ≤ℤ z → z ≤ℤ pos 0 → z ≡ pos 0
-              flat z k l = omega (arith, ints, k, l)
 
       -- a lower triple and a point beyond one of its sides: there is a lower triple on the other side of it
       pub reverse_lower : (a b c : ℕ) → IsLower a b c → (p : ℕ) → On p → pos 0 <ℤ wedge b a p → (d : ℕ) × IsLower b a d

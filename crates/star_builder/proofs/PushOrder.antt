@@ -9,6 +9,7 @@ use Rattle.std.proofs.lemmas.List.FromFn.{get_or-range_with_len, get_or-map-rang
 use Rattle.ntfe_model.specs.Stars.{IsFirstPositive, order_of, push_coefficient}
 use Rattle.ntfe_model.specs.declared.nogood.Push.{Push}
 use Rattle.ntfe_model.specs.declared.nogood.Push.TheVariants.{Up, Down}
+use Rattle.ntfe_nums.proofs.Signs.{positive_some}
 
 -- ---- in a list
 
@@ -26,10 +27,7 @@ not_first_in (z ∷ zs) zero h before p f = ⊎_elim (λ q. both z q p) (λ q. n
 
     none : (y : ℤ) → y ≡ pos 0 → y <ℤ pos 0 → ⊥
     none y q r = absurd (omega (arith, ints, q, r))
-not_first_in (z ∷ zs) (suc i) h before p f = ⊎_elim (λ q. both z q (before 0 (omega arith))) (λ q. not_first_in zs i (omega arith) (λ j k. before (suc j) (omega arith)) p q.1) f
-  where
-    both : (y : ℤ) → pos 0 <ℤ y → y ≡ pos 0 → ⊥
-    both y q r = absurd (omega (arith, ints, q, r))
+not_first_in (z ∷ zs) (suc i) h before p f = ⊎_elim (λ q. positive_some z q (before 0 (omega arith))) (λ q. not_first_in zs i (omega arith) (λ j k. before (suc j) (omega arith)) p q.1) f
 
 -- ---- along the order
 

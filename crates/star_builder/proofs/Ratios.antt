@@ -6,7 +6,7 @@ use Rattle.std.proofs.lemmas.Int.{ints}
 use Rattle.ntfe_nums.proofs.Ring.{ring}
 use Rattle.ntfe_nums.proofs.Ring.Expression.{var, num, minus, times}
 use Rattle.ntfe_model.proofs.Listings.{Contains-here, Contains-there, Contains-cases, Contains-none}
-use Rattle.ntfe_nums.proofs.Signs.{factor_not_negative, product_not_negative, product_not_positive, sign_of}
+use Rattle.ntfe_nums.proofs.Signs.{factor_not_negative, product_not_negative, product_not_positive, sign_of, not_negative, zero_not_negative}
 
 -- ---- the least ratio
 
@@ -23,32 +23,23 @@ module _ {A : Type 0} (h u : A → ℤ) where
 
   falls_over : (y x : A) → pos 0 ≤ℤ h y → pos 0 ≤ℤ h x → pos 0 <ℤ u y → u x ≤ℤ pos 0 → pos 0 ≤ℤ tilted y x
   falls_over y x hy hx r l =
-      by (u y *ℤ h x) (h y *ℤ u x) (product_not_negative (u y) (h x) (weak (u y) r) hx) (product_not_positive (h y) (u x) hy l)
+      by (u y *ℤ h x) (h y *ℤ u x) (product_not_negative (u y) (h x) (not_negative (u y) r) hx) (product_not_positive (h y) (u x) hy l)
     where
-      weak : (z : ℤ) → pos 0 <ℤ z → pos 0 ≤ℤ z
-      weak z k = omega (arith, ints, k)
-
       by : (a b : ℤ) → pos 0 ≤ℤ a → b ≤ℤ pos 0 → pos 0 ≤ℤ (a -ℤ b)
       by a b k m = omega (arith, ints, k, m)
 
   itself_over : (x : A) → pos 0 ≤ℤ tilted x x
-  itself_over x = at_least (tilted x x) (ring (u x ∷ h x ∷ []) (minus (times (var 0) (var 1)) (times (var 1) (var 0))) (num (pos 0)) refl)
-    where
-      at_least : (z : ℤ) → z ≡ pos 0 → pos 0 ≤ℤ z
-      at_least z e = omega (arith, ints, e)
+  itself_over x = zero_not_negative (tilted x x) (ring (u x ∷ h x ∷ []) (minus (times (var 0) (var 1)) (times (var 1) (var 0))) (num (pos 0)) refl)
 
   -- the ratio at x is no more than that at y, so the tilt to x is nowhere below that to y
   lower_over : (y x z : A) → pos 0 <ℤ u y → pos 0 <ℤ u x → pos 0 <ℤ u z → tilted y x ≤ℤ pos 0 → pos 0 ≤ℤ tilted y z → pos 0 ≤ℤ tilted x z
   lower_over y x z ry rx rz l o =
       factor_not_negative (u y) (tilted x z) ry
       (by (u x *ℤ tilted y z) (u z *ℤ tilted y x) (u y *ℤ tilted x z)
-      (product_not_negative (u x) (tilted y z) (weak (u x) rx) o) (product_not_positive (u z) (tilted y x) (weak (u z) rz) l)
+      (product_not_negative (u x) (tilted y z) (not_negative (u x) rx) o) (product_not_positive (u z) (tilted y x) (not_negative (u z) rz) l)
       (let t = λ (i j k l : ℕ). minus (times (var i) (var j)) (times (var k) (var l)) in
       ring (u y ∷ h y ∷ u x ∷ h x ∷ u z ∷ h z ∷ []) (times (var 0) (t 2 5 3 4)) (minus (times (var 2) (t 0 5 1 4)) (times (var 4) (t 0 3 1 2))) refl))
     where
-      weak : (z : ℤ) → pos 0 <ℤ z → pos 0 ≤ℤ z
-      weak z k = omega (arith, ints, k)
-
       by : (a b c : ℤ) → pos 0 ≤ℤ a → b ≤ℤ pos 0 → c ≡ a -ℤ b → pos 0 ≤ℤ c
       by a b c k m e = omega (arith, ints, k, m, e)
 
@@ -104,11 +95,8 @@ module _ {A : Type 0} (h u : A → ℤ) where
         },
       )
 
-      weak : (a : ℤ) → pos 0 <ℤ a → pos 0 ≤ℤ a
-      weak a k = omega (arith, ints, k)
-
       rises : pos 0 <ℤ u x → Outcome (x ∷ xs)
-      rises r = ⊎_elim (λ p. stays (weak (tilted y x) p)) (moves r) (sign_of (tilted y x))
+      rises r = ⊎_elim (λ p. stays (not_negative (tilted y x) p)) (moves r) (sign_of (tilted y x))
 
   found : (xs : List A) → ((x : A) → Contains xs x → pos 0 ≤ℤ h x) → Outcome xs
   found [] over = inl (λ x c. Contains-none x c)

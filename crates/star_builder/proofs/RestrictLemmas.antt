@@ -20,7 +20,7 @@ use Rattle.ntfe_model.specs.Stars.{AreTogether, IsLeft, IsRestriction}
 use Rattle.ntfe_model.specs.declared.triangle.Triangle.{Triangle}
 use Rattle.ntfe_model.proofs.Listings.{All-from_contains, Contains-none}
 use Rattle.star_builder.specs.Gathered.{Gathers, triangle_of}
-use Rattle.star_builder.specs.Outlines.{AreLeft}
+use Rattle.star_builder.specs.FaceCharts.{AreLeft}
 
 Contains-from_map : {X Y : Type 0} (f : X → Y) (xs : List X) (d : X) (y : Y) → Contains (map f xs) y → (x : X) × Contains xs x × (y ≡ f x)
 Contains-from_map f xs d y c =

@@ -15,20 +15,15 @@ use Rattle.ntfe_model.proofs.Folds.{unit_corner}
 use Rattle.ntfe_model.proofs.PlaneNumbers.{positive_sign, flat_front, flat_last, flat_outer}
 use Rattle.ntfe_model.proofs.UnitTriples.{area_of, unit_area}
 use Rattle.star_builder.proofs.CentreTriples.{area_odd}
-
-less_or_more : (a b : ℕ) → a ≢ b → (a < b) ⊎ (b < a)
-less_or_more a b n = grind (arith, n)
+use Rattle.ntfe_nums.proofs.Signs.{two_orders, positive_some}
 
 module _ (h : Patch) (x : Triangulation) (fine : IsFine h x.triangles) (star : List (List ℕ)) (leaves : Leaves h star x) (ts : List Triangle) (is : IsRestriction h star ts) where
-  no_area : (z : ℤ) → pos 0 <ℤ z → z ≡ pos 0 → ⊥
-  no_area z l e = absurd (omega (arith, ints, l, e))
-
   -- three points that have an area are three
   three_apart : (a b c : ℕ) → pos 0 <ℤ area_of h a b c → (a ≢ b) × (b ≢ c) × (a ≢ c)
   three_apart a b c l = (
-    (λ e. no_area (area_of h a b c) l (ap (λ k. area_of h k b c) e ∙ flat_front (axes h) (place h b) (place h c))),
-    (λ e. no_area (area_of h a b c) l (ap (λ k. area_of h a k c) e ∙ flat_last (axes h) (place h a) (place h c))),
-    (λ e. no_area (area_of h a b c) l (ap (λ k. area_of h k b c) e ∙ flat_outer (axes h) (place h c) (place h b))),
+    (λ e. positive_some (area_of h a b c) l (ap (λ k. area_of h k b c) e ∙ flat_front (axes h) (place h b) (place h c))),
+    (λ e. positive_some (area_of h a b c) l (ap (λ k. area_of h a k c) e ∙ flat_last (axes h) (place h a) (place h c))),
+    (λ e. positive_some (area_of h a b c) l (ap (λ k. area_of h k b c) e ∙ flat_outer (axes h) (place h c) (place h b))),
   )
 
   -- of the two ways round, a triple of the item has the one that turns to the left
@@ -41,7 +36,7 @@ module _ (h : Patch) (x : Triangulation) (fine : IsFine h x.triangles) (star : L
 
   to_item : (t : Triangle) → IsTripleOf ts t → IsTripleOf x.triangles t
   to_item t (u, c, same) =
-      let v = found (less_or_more u.b u.c (three_apart u.a u.b u.c area).1) in
+      let v = found (two_orders u.b u.c (three_apart u.a u.b u.c area).1) in
       (v.0, v.1, corner_same v.0 u t.a t.b t.c v.2 same)
     where
       left : IsLeft h star u
@@ -65,7 +60,7 @@ module _ (h : Patch) (x : Triangulation) (fine : IsFine h x.triangles) (star : L
       let u = unit_corner h v a b c (fine.unit v i) r in
       is.complete (record { a = a; b = b; c = c }) (record {
         points = u.points;
-        together = together u (less_or_more b c (three_apart a b c (unit_area h a b c u)).1);
+        together = together u (two_orders b c (three_apart a b c (unit_area h a b c u)).1);
         turned = u.left;
         least = (ab, ac);
       })
@@ -76,7 +71,7 @@ module _ (h : Patch) (x : Triangulation) (fine : IsFine h x.triangles) (star : L
 
   from_item : (t : Triangle) → IsTripleOf x.triangles t → IsTripleOf ts t
   from_item t (v, i, same) =
-      by (less_or_more v.a v.b apart.0) (less_or_more v.b v.c apart.1) (less_or_more v.a v.c apart.2)
+      by (two_orders v.a v.b apart.0) (two_orders v.b v.c apart.1) (two_orders v.a v.c apart.2)
     where
       apart : (v.a ≢ v.b) × (v.b ≢ v.c) × (v.a ≢ v.c)
       apart = three_apart v.a v.b v.c (unit_area h v.a v.b v.c (fine.unit v i))

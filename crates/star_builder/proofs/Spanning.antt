@@ -1,6 +1,7 @@
 -- The vertices of a reflexive pair span: only the form 0 has one value at all of them, and the value is 0.
 --     spot x vs k      the place of vertex k, counted from 1, and x for 0
 --     weight_of h k      1 for a vertex, and h for 0
+--     not_flat      they do not all lie in one facet
 --     spanning      a gap that is 0 at all vertices is 0
 use Rattle.std.proofs.Common.{◌≡◌, ◌≢◌, ℕ, zero, suc, ◌<◌, ◌⊎◌, inl, inr, ⊎_elim, refl, sym, ap, ◌∙◌, arith, ℤ, pos, negsuc, ◌+ℤ◌, ◌-ℤ◌, ◌*ℤ◌, List, [], ◌∷◌, length}
 use Rattle.std.specs.Prelude.{Contains}
@@ -33,7 +34,7 @@ module _ (p : VertexLists) (r : IsReflexive p) (m : Vector) (within : Contains p
   facet_four = r.facets m within
 
   -- the vertices do not all lie in one facet
-  not_flat : ((i : ℕ) → i < length p.vertices → IsTight m (at p.vertices i)) → ⊥
+  pub not_flat : ((i : ℕ) → i < length p.vertices → IsTight m (at p.vertices i)) → ⊥
   not_flat flat = by (r.corners (at p.vertices facet_four.i) (at_vertex facet_four.i (let q = facet_four.rising in omega (arith, q.0, q.1, q.2, q.3))))
     where
       same : (d : Vector) → Contains p.dual d → d ≡ m

@@ -1,104 +1,119 @@
 -- A star exists for any heights and any order of pushing: whether four points are a member is decided, so its listing is a filter.
-use Rattle.std.proofs.Common.{◌≡◌, ℕ, zero, suc, ◌+◌, ◌<◌, ◌≤◌, inl, inr, ⊎_elim, Bool, true, false, refl, sym, ap, ◌∙◌, subst, arith, ℤ, pos, negsuc, ◌<ℤ◌, unsigned_abs, List, [], ◌∷◌, map, length, get_or}
-use Rattle.std.specs.Prelude.{filter, flat_map}
+use Rattle.std.proofs.Common.{◌≡◌, ◌≢◌, ℕ, zero, suc, ◌+◌, ◌<◌, ◌≤◌, ◌⊎◌, inl, inr, ⊎_elim, Bool, true, false, refl, sym, ap, ◌∙◌, subst, arith, ℤ, pos, negsuc, List, [], ◌∷◌, length, get_or}
+use Rattle.std.specs.Prelude.{Contains, filter, flat_map}
 use Rattle.std.specs.List.{range_with_len}
 use Rattle.std.specs.Ordering.{nat_cmp, ordering_then}
 use Rattle.std.specs.declared.cmp.Ordering.TheVariants.{Less, Equal}
 use Rattle.std.specs.Cmp.{nat_cmp_is}
 use Rattle.std.specs.Cmp.Lexicographic.{slice_cmp}
 use Rattle.std.proofs.lemmas.List.Sorted.{IsPermutation-refl, IsPermutation-reverse}
-use Rattle.ntfe_nums.specs.Vectors.{Vector, det4, dot}
+use Rattle.ntfe_nums.specs.Vectors.{Vector, det4, dot, AreLinearlyIndependent}
 use Rattle.ntfe_model.specs.Lists.{IsListing, IsBelow, IsNumberOf}
 use Rattle.ntfe_model.specs.Pairs.{entry}
 use Rattle.ntfe_model.specs.Reflexive.{IsTight}
 use Rattle.ntfe_model.specs.Points.{place_of_point}
-use Rattle.ntfe_model.specs.Stars.{IsMember, IsStar, IsOrder, order_of}
+use Rattle.ntfe_model.specs.Stars.{IsLexAbove, IsMember, IsStar, IsOrder, order_of}
 use Rattle.ntfe_model.specs.declared.point.Point.{Point}
 use Rattle.ntfe_model.specs.declared.nogood.Push.{Push}
 use Rattle.ntfe_model.specs.declared.nogood.Push.TheVariants.{Up, Down}
 use Rattle.ntfe_model.proofs.Listings.{Contains-here, listing_filter, listing_groups, listing_range}
-use Rattle.ntfe_model.proofs.Triples.{Decided, decide_number, decide_both}
-use Rattle.star_builder.proofs.Decisions.{decide_less, decide_at_most, decide_all_below, decide_some_below, decide_not, decide_given, decide_both4}
-use Rattle.star_builder.proofs.Leading.{Field, decide_first_positive}
-use Rattle.star_builder.proofs.FourWeights.{Four, Weights, four, IsMixOf, excess, positive_mix, proportional, up_proportional}
-use Rattle.star_builder.proofs.Cells.{fields, IsOver, IsOther, IsCell, IsRising, AreNumbers, AreTightAt, AreIndependentAt, cell_member, four_of, member_rises, member_cell}
-use Rattle.star_builder.proofs.FacetPoints.{decide_equal}
+use Rattle.ntfe_model.proofs.Triples.{Decided, decide_number, decide_both, decide_all3, decide_not, decide_integer}
+use Rattle.star_builder.proofs.Decisions.{decide_less, decide_at_most, decide_all_below, decide_some_below, decide_given, decide_both4}
+use Rattle.star_builder.proofs.FourPoints.{in_four}
+use Rattle.star_builder.proofs.LowSimplices.{none_of_four, has_first, has_second, has_third, has_fourth}
+use Rattle.star_builder.proofs.WholeHeights.{decide_lex}
 
--- ---- whether four points are a cell
+-- ---- whether four points are a member
 
-module _ (ms : List Vector) (xs : List Point) (hs : List Field) where
+module _ (ms : List Vector) (xs : List Point) (w : List ℤ) (order : List ℕ) where
   abbrev spot : ℕ → Vector
   spot = place_of_point xs
 
   decide_tight : (m : Vector) (k : ℕ) → Decided (IsTight m (spot k))
-  decide_tight m k = decide_equal (dot m (spot k)) (negsuc 0)
+  decide_tight m k = decide_integer (dot m (spot k)) (negsuc 0)
 
   decide_number_of : {X : Type 0} (ys : List X) (k : ℕ) → Decided (IsNumberOf ys k)
   decide_number_of ys k = decide_both (decide_at_most 1 k) (decide_at_most k (length ys))
 
-  decide_over : (s : Four) → AreIndependentAt (place_of_point xs) s → (p : ℕ) → Decided (IsOver hs (place_of_point xs) s p)
-  decide_over s i p = by (positive_mix (spot s.a) (spot s.b) (spot s.c) (spot s.d) (spot p) i)
+  module _ (a b c d : ℕ) where
+    abbrev IsOther : ℕ → Type 0
+    IsOther p = (p ≢ a) × (p ≢ b) × (p ≢ c) × (p ≢ d)
+
+    -- the facet with this number has the four, and every other point of it is above them
+    abbrev IsFacetOf : ℕ → Type 0
+    IsFacetOf m =
+        IsNumberOf ms m × (IsTight (entry ms m) (spot a) × IsTight (entry ms m) (spot b) × IsTight (entry ms m) (spot c) × IsTight (entry ms m) (spot d))
+        × ((p : ℕ) → p < suc (length xs) → IsNumberOf xs p → IsOther p → IsTight (entry ms m) (spot p) → IsLexAbove xs w order a b c d p)
+
+    abbrev AreMembers : Type 0
+    AreMembers =
+        (IsNumberOf xs a × IsNumberOf xs d) × ((a < b) × (b < c) × (c < d)) × AreLinearlyIndependent (spot a) (spot b) (spot c) (spot d)
+        × ((m : ℕ) × (m < suc (length ms)) × IsFacetOf m)
+
+    decide_facet : AreLinearlyIndependent (spot a) (spot b) (spot c) (spot d) → (m : ℕ) → Decided (IsFacetOf m)
+    decide_facet independent m =
+        decide_all3 (decide_number_of ms m)
+        (decide_both4 (decide_tight (entry ms m) a) (decide_tight (entry ms m) b) (decide_tight (entry ms m) c) (decide_tight (entry ms m) d))
+        (decide_all_below (λ p. IsNumberOf xs p → IsOther p → IsTight (entry ms m) (spot p) → IsLexAbove xs w order a b c d p)
+        (λ p. decide_given (decide_number_of xs p)
+        (decide_given (decide_both4 (decide_not (decide_number p a)) (decide_not (decide_number p b)) (decide_not (decide_number p c)) (decide_not (decide_number p d)))
+        (decide_given (decide_tight (entry ms m) p) (decide_lex w order xs a b c d p independent)))) (suc (length xs)))
+
+    decide_members : Decided AreMembers
+    decide_members =
+        by (decide_both (decide_number_of xs a) (decide_number_of xs d)) (decide_all3 (decide_less a b) (decide_less b c) (decide_less c d)) (decide_integer (det4 (spot a) (spot b) (spot c) (spot d)) (pos 0))
+      where
+        by : Decided (IsNumberOf xs a × IsNumberOf xs d) → Decided ((a < b) × (b < c) × (c < d)) → Decided (det4 (spot a) (spot b) (spot c) (spot d) ≡ pos 0) → Decided AreMembers
+        by (inr n) q r = inr (λ m. n m.0)
+        by (inl o) (inr n) r = inr (λ m. n m.1)
+        by (inl o) (inl u) (inl e) = inr (λ m. m.2 e)
+        by (inl o) (inl u) (inr i) = ⊎_elim (λ f. inl (o, u, i, f)) (λ n. inr (λ m. n m.3)) (decide_some_below IsFacetOf (decide_facet i) (suc (length ms)))
+
+    to_member : AreMembers → IsMember ms xs w order (a ∷ b ∷ c ∷ d ∷ [])
+    to_member (o, u, i, (m, l, f)) = record {
+      a = a;
+      b = b;
+      c = c;
+      d = d;
+      is = refl;
+      ordered = (o.0, u.0, u.1, u.2, o.1);
+      facet = m;
+      number = f.0;
+      tight = λ k h. tight k (in_four a b c d k h);
+      independent = i;
+      others = λ p n out t. f.2 p (let k = n.1 in omega (arith, k)) n (none_of_four a b c d p out) t;
+    }
+      where
+        tight : (k : ℕ) → (k ≡ a) ⊎ ((k ≡ b) ⊎ ((k ≡ c) ⊎ (k ≡ d))) → IsTight (entry ms m) (spot k)
+        tight k (inl e) = ap (λ j. dot (entry ms m) (spot j)) e ∙ f.1.0
+        tight k (inr (inl e)) = ap (λ j. dot (entry ms m) (spot j)) e ∙ f.1.1
+        tight k (inr (inr (inl e))) = ap (λ j. dot (entry ms m) (spot j)) e ∙ f.1.2
+        tight k (inr (inr (inr e))) = ap (λ j. dot (entry ms m) (spot j)) e ∙ f.1.3
+
+  from_member : (v : List ℕ) (r : IsMember ms xs w order v) → AreMembers r.a r.b r.c r.d
+  from_member v r = (
+    (r.ordered.0, r.ordered.4),
+    (r.ordered.1, r.ordered.2, r.ordered.3),
+    r.independent,
+    (
+      r.facet,
+      (let l = r.number.1 in omega (arith, l)),
+      (
+        r.number,
+        (tight r.a (has_first r.a r.b r.c r.d), tight r.b (has_second r.a r.b r.c r.d), tight r.c (has_third r.a r.b r.c r.d), tight r.d (has_fourth r.a r.b r.c r.d)),
+        (λ p l n o t. r.others p n (λ h. other p o (in_four r.a r.b r.c r.d p (subst (λ (ks : List ℕ). Contains ks p) r.is h))) t),
+      ),
+    ),
+  )
     where
-      by : (m : Weights) × (pos 0 <ℤ m.k) × (m.k ≡ pos (unsigned_abs (det4 (spot s.a) (spot s.b) (spot s.c) (spot s.d)))) × IsMixOf m (spot s.a) (spot s.b) (spot s.c) (spot s.d) (spot p)
-          → Decided (IsOver hs (place_of_point xs) s p)
-      by (m, l, e, mix) =
-          ⊎_elim (λ u. inl (record { weights = m; positive = l; mix = mix; up = u }))
-          (λ n. inr (λ r. n (up_proportional hs r.weights m s p (proportional r.weights m (spot s.a) (spot s.b) (spot s.c) (spot s.d) (spot p) i r.mix mix) r.positive l r.up)))
-          (decide_first_positive (map (excess m s p) hs))
+      tight : (k : ℕ) → Contains (r.a ∷ r.b ∷ r.c ∷ r.d ∷ []) k → IsTight (entry ms r.facet) (spot k)
+      tight k h = r.tight k (subst (λ (ks : List ℕ). Contains ks k) (sym r.is) h)
 
-  -- the facet with this number has the four, and every other point of it is over them
-  abbrev IsFacetOf : Four → ℕ → Type 0
-  IsFacetOf s m =
-      IsNumberOf ms m × AreTightAt (entry ms m) spot s
-      × ((p : ℕ) → p < suc (length xs) → IsNumberOf xs p → IsOther s p → IsTight (entry ms m) (spot p) → IsOver hs spot s p)
-
-  decide_facet : (s : Four) → AreIndependentAt (place_of_point xs) s → (m : ℕ) → Decided (IsFacetOf s m)
-  decide_facet s i m =
-      decide_three (decide_number_of ms m)
-      (decide_both4 (decide_tight (entry ms m) s.a) (decide_tight (entry ms m) s.b) (decide_tight (entry ms m) s.c) (decide_tight (entry ms m) s.d))
-      (decide_all_below (λ p. IsNumberOf xs p → IsOther s p → IsTight (entry ms m) (spot p) → IsOver hs spot s p)
-      (λ p. decide_given (decide_number_of xs p)
-      (decide_given (decide_both4 (decide_not (decide_number p s.a)) (decide_not (decide_number p s.b)) (decide_not (decide_number p s.c)) (decide_not (decide_number p s.d)))
-      (decide_given (decide_tight (entry ms m) p) (decide_over s i p)))) (suc (length xs)))
-    where
-      decide_three : {A B C : Type 0} → Decided A → Decided B → Decided C → Decided (A × B × C)
-      decide_three (inl a) (inl b) (inl c) = inl (a, b, c)
-      decide_three (inr n) q r = inr (λ p. n p.0)
-      decide_three (inl a) (inr n) r = inr (λ p. n p.1)
-      decide_three (inl a) (inl b) (inr n) = inr (λ p. n p.2)
-
-  decide_cell : (s : Four) → Decided (IsCell ms xs hs s)
-  decide_cell s = by (decide_both4 (decide_number_of xs s.a) (decide_number_of xs s.b) (decide_number_of xs s.c) (decide_number_of xs s.d)) (decide_equal (det4 (spot s.a) (spot s.b) (spot s.c) (spot s.d)) (pos 0))
-    where
-      low : (p : ℕ) → IsNumberOf xs p → p < suc (length xs)
-      low p n = let l = n.1 in omega (arith, l)
-
-      found : AreNumbers xs s → AreIndependentAt (place_of_point xs) s → Decided ((m : ℕ) × (m < suc (length ms)) × IsFacetOf s m) → Decided (IsCell ms xs hs s)
-      found n i (inl (m, l, f)) =
-          inl (record { numbers = n; facet = m; number = f.0; tight = f.1; independent = i; others = λ p k o t. f.2 p (low p k) k o t })
-      found n i (inr lacks) =
-          inr (λ r. lacks (r.facet, (let l = r.number.1 in omega (arith, l)), (r.number, r.tight, (λ p l k o t. r.others p k o t))))
-
-      by : Decided (AreNumbers xs s) → Decided (det4 (spot s.a) (spot s.b) (spot s.c) (spot s.d) ≡ pos 0) → Decided (IsCell ms xs hs s)
-      by (inr lacks) q = inr (λ r. lacks r.numbers)
-      by (inl n) (inl e) = inr (λ r. r.independent e)
-      by (inl n) (inr i) = found n i (decide_some_below (IsFacetOf s) (decide_facet s i) (suc (length ms)))
-
--- ---- whether a list is a member
-
-module _ (ms : List Vector) (xs : List Point) (w : List ℤ) (order : List ℕ) where
-  same_four : (a b c d : ℕ) (r : IsMember ms xs w order (a ∷ b ∷ c ∷ d ∷ [])) → four_of ms xs w order (a ∷ b ∷ c ∷ d ∷ []) r ≡ four a b c d
-  same_four a b c d r =
-      λ i. record { a = sym (ap (λ v. get_or v 0 0) r.is) i; b = sym (ap (λ v. get_or v 1 0) r.is) i; c = sym (ap (λ v. get_or v 2 0) r.is) i; d = sym (ap (λ v. get_or v 3 0) r.is) i }
-
-  decide_rising : (s : Four) → Decided (IsRising s)
-  decide_rising s = by (decide_less s.a s.b) (decide_less s.b s.c) (decide_less s.c s.d)
-    where
-      by : Decided (s.a < s.b) → Decided (s.b < s.c) → Decided (s.c < s.d) → Decided (IsRising s)
-      by (inl a) (inl b) (inl c) = inl (a, b, c)
-      by (inr n) q r = inr (λ p. n p.0)
-      by (inl a) (inr n) r = inr (λ p. n p.1)
-      by (inl a) (inl b) (inr n) = inr (λ p. n p.2)
+      other : (p : ℕ) → IsOther r.a r.b r.c r.d p → (p ≡ r.a) ⊎ ((p ≡ r.b) ⊎ ((p ≡ r.c) ⊎ (p ≡ r.d))) → ⊥
+      other p o (inl e) = o.0 e
+      other p o (inr (inl e)) = o.1 e
+      other p o (inr (inr (inl e))) = o.2 e
+      other p o (inr (inr (inr e))) = o.3 e
 
   -- a member has four points
   four_long : (v : List ℕ) → IsMember ms xs w order v → length v ≡ 4
@@ -109,12 +124,13 @@ module _ (ms : List Vector) (xs : List Point) (w : List ℤ) (order : List ℕ) 
   decide_member (a ∷ []) = inr (λ r. (let e = four_long (a ∷ []) r in absurd (omega (arith, e))))
   decide_member (a ∷ b ∷ []) = inr (λ r. (let e = four_long (a ∷ b ∷ []) r in absurd (omega (arith, e))))
   decide_member (a ∷ b ∷ c ∷ []) = inr (λ r. (let e = four_long (a ∷ b ∷ c ∷ []) r in absurd (omega (arith, e))))
-  decide_member (a ∷ b ∷ c ∷ d ∷ []) = by (decide_rising (four a b c d)) (decide_cell ms xs (fields w order) (four a b c d))
+  decide_member (a ∷ b ∷ c ∷ d ∷ []) = ⊎_elim (λ m. inl (to_member a b c d m)) (λ n. inr (λ r. n (moved r))) (decide_members a b c d)
     where
-      by : Decided (IsRising (four a b c d)) → Decided (IsCell ms xs (fields w order) (four a b c d)) → Decided (IsMember ms xs w order (a ∷ b ∷ c ∷ d ∷ []))
-      by (inl u) (inl k) = inl (cell_member ms xs w order (four a b c d) u k)
-      by (inr n) q = inr (λ r. n (subst IsRising (same_four a b c d r) (member_rises ms xs w order (a ∷ b ∷ c ∷ d ∷ []) r)))
-      by (inl u) (inr n) = inr (λ r. n (subst (IsCell ms xs (fields w order)) (same_four a b c d r) (member_cell ms xs w order (a ∷ b ∷ c ∷ d ∷ []) r)))
+      moved : IsMember ms xs w order (a ∷ b ∷ c ∷ d ∷ []) → AreMembers a b c d
+      moved r =
+          subst (λ (t : ℕ × ℕ × ℕ × ℕ). AreMembers t.0 t.1 t.2 t.3)
+          (λ i. (sym (ap (λ v. get_or v 0 0) r.is) i, sym (ap (λ v. get_or v 1 0) r.is) i, sym (ap (λ v. get_or v 2 0) r.is) i, sym (ap (λ v. get_or v 3 0) r.is) i))
+          (from_member (a ∷ b ∷ c ∷ d ∷ []) r)
   decide_member (a ∷ b ∷ c ∷ d ∷ e ∷ v) = inr (λ r. (let l = four_long (a ∷ b ∷ c ∷ d ∷ e ∷ v) r in absurd (omega (arith, l))))
 
 -- ---- all lists of numbers of one length, in order
@@ -180,25 +196,21 @@ module _ (ms : List Vector) (xs : List Point) (w : List ℤ) (order : List ℕ) 
 
   ranged : (v : List ℕ) → IsMember ms xs w order v → IsInRange (length xs) 4 v
   ranged v r =
-      let c = member_cell ms xs w order v r in
-      let n = c.numbers in (
+      let o = r.ordered in
+      let l0 = o.0.0 in let l1 = o.1 in let l2 = o.2 in let l3 = o.3 in let l4 = o.4.1 in (
         r.a,
-        (n.0.0, (let l = n.0.1 in omega (arith, l))),
+        (l0, omega (arith, l1, l2, l3, l4)),
         (
           r.b ∷ r.c ∷ r.d ∷ [],
           (
             r.b,
-            (n.1.0, (let l = n.1.1 in omega (arith, l))),
+            (omega (arith, l0, l1), omega (arith, l2, l3, l4)),
             (
               r.c ∷ r.d ∷ [],
               (
                 r.c,
-                (n.2.0, (let l = n.2.1 in omega (arith, l))),
-                (
-                  r.d ∷ [],
-                  (r.d, (n.3.0, (let l = n.3.1 in omega (arith, l))), ([], refl, refl)),
-                  refl,
-                ),
+                (omega (arith, l0, l1, l2), omega (arith, l3, l4)),
+                (r.d ∷ [], (r.d, (omega (arith, l0, l1, l2, l3), omega (arith, l4)), ([], refl, refl)), refl),
               ),
               refl,
             ),

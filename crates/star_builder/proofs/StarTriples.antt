@@ -1,67 +1,64 @@
--- The triples that a star leaves on a two-face are those of the item that its heights extend.
-use Rattle.std.proofs.Common.{◌≢◌, ℕ, ◌<◌, ◌⊎◌, inl, inr, arith, ℤ, List, length}
+-- The triples that a star of heights that extend a choice leaves on a two-face are those of the chosen item.
+--     item_together      the corners of a triple of the item stand together in a member
+--     star_induces      the star induces the choice
+use Rattle.std.proofs.Common.{ℕ, ◌<◌, ◌⊎◌, inl, inr, sym, subst, arith, ℤ, pos, ◌<ℤ◌, neg_ℤ, List, length}
 use Rattle.std.specs.Prelude.{Contains}
-use Rattle.ntfe_nums.specs.Vectors.{Vector}
 use Rattle.ntfe_model.specs.Shapes.{Shape, IsShape}
-use Rattle.ntfe_model.specs.Charts.{patch_at, IsOf, IsUnit}
+use Rattle.ntfe_model.specs.Charts.{patch_at, IsOf}
 use Rattle.ntfe_model.specs.Triangulations.{IsRotationOf, IsFine}
-use Rattle.ntfe_model.specs.Choices.{IsAbove, IsRegularBy}
-use Rattle.ntfe_model.specs.Stars.{IsOrder, IsStar, AreTogether, AreCorners, Leaves}
-use Rattle.ntfe_model.specs.declared.point.Point.{Point}
+use Rattle.ntfe_model.specs.Choices.{IsRegularBy, Extends}
+use Rattle.ntfe_model.specs.Stars.{IsOrder, IsStar, AreTogether, AreCorners, Leaves, Induces}
 use Rattle.ntfe_model.specs.declared.triangulation.Triangulation.{Triangulation}
 use Rattle.ntfe_model.specs.declared.triangle.Triangle.{Triangle}
-use Rattle.ntfe_model.proofs.Folds.{unit_corner}
-use Rattle.ntfe_model.proofs.Levels.{above_turn}
-use Rattle.ntfe_model.proofs.FoldPlanes.{at_corner, other_than}
-use Rattle.star_builder.proofs.FourWeights.{Four, four}
-use Rattle.star_builder.proofs.Cells.{fields, IsCell, IsRising, cell12, cell23, cell34, listed, cell_member, in_first, in_second, in_third, in_fourth}
-use Rattle.star_builder.proofs.FaceLevels.{together_corners}
-use Rattle.star_builder.proofs.LeastSlope.{lower_cell}
+use Rattle.ntfe_model.proofs.FoldPlanes.{at_corner}
+use Rattle.ntfe_model.proofs.UnitTriples.{area_of}
+use Rattle.star_builder.proofs.CentreTriples.{area_odd}
+use Rattle.star_builder.proofs.Decisions.{two_signs}
+use Rattle.star_builder.proofs.FaceLevels.{regular_lower, lower_triple}
+use Rattle.star_builder.proofs.FacePlanes.{first_of, second_of, area_wedge}
+use Rattle.star_builder.proofs.FaceSimplices.{IsBelowFace}
+use Rattle.star_builder.proofs.FaceTriples.{together_lower, lower_together, together_area}
+use Rattle.star_builder.proofs.Inducing.{some_triple}
+use Rattle.star_builder.proofs.Planar.{lower_turn}
+use Rattle.star_builder.proofs.WholeHeights.{whole}
 
--- the four points of a cell stand together in a member
-pub cell_together : (ms : List Vector) (xs : List Point) (w : List ℤ) (order : List ℕ) (star : List (List ℕ)) → IsStar ms xs w order star
-    → (a b c d : ℕ) → a < b → b < c → d ≢ a → d ≢ b → d ≢ c → IsCell ms xs (fields w order) (four a b c d) → AreTogether star a b c
-cell_together ms xs w order star is a b c d ab bc na nb nc cell = by (place ab bc na nb nc)
-  where
-    place : a < b → b < c → d ≢ a → d ≢ b → d ≢ c → (d < a) ⊎ (((a < d) × (d < b)) ⊎ (((b < d) × (d < c)) ⊎ (c < d)))
-    place i j k l m = grind (arith, i, j, k, l, m)
+module _ (g : Shape) (s : IsShape g) (w : List ℤ) (order : List ℕ) (all : IsOrder (length g.points) order) (star : List (List ℕ)) (is : IsStar g.pair.dual g.points w order star)
+    (f : ℕ) (within : f < length g.faces) (x : Triangulation) (fine : IsFine (patch_at g f) x.triangles) (lifts : IsRegularBy (patch_at g f) w x) where
+  abbrev v : ℕ → ℤ
+  v = whole w order
 
-    member : (v : Four) → IsRising v → IsCell ms xs (fields w order) v → Contains star (listed v)
-    member v r k = is.complete (listed v) (cell_member ms xs w order v r k)
+  pub item_together : (t : Triangle) → Contains x.triangles t → (a b c : ℕ) → IsRotationOf t a b c → AreTogether star a b c
+  item_together t i a b c r =
+      lower_together g s w order all star is f within a b c
+      (at_corner (IsBelowFace g s f within v) (λ j k l. lower_turn (first_of g s f within v) (second_of g s f within v) v (IsOf (patch_at g f)) j k l) t a b c r
+      (regular_lower g s f within w order all t.a t.b t.c (fine.unit t i) (lifts t i)))
 
-    c34 : IsCell ms xs (fields w order) (four a b d c)
-    c34 = cell34 ms xs (fields w order) (four a b c d) cell
+  corners_together : (a b c : ℕ) → AreCorners x.triangles a b c → AreTogether star a b c
+  corners_together a b c (t, i, inl r) = item_together t i a b c r
+  corners_together a b c (t, i, inr r) = (let m = item_together t i a c b r in (m.0, m.1, m.2, m.4, m.3))
 
-    c23 : IsCell ms xs (fields w order) (four a d b c)
-    c23 = cell23 ms xs (fields w order) (four a b d c) c34
-
-    c12 : IsCell ms xs (fields w order) (four d a b c)
-    c12 = cell12 ms xs (fields w order) (four a d b c) c23
-
-    by : (d < a) ⊎ (((a < d) × (d < b)) ⊎ (((b < d) × (d < c)) ⊎ (c < d))) → AreTogether star a b c
-    by (inl l) = (listed (four d a b c), member (four d a b c) (l, ab, bc) c12, in_second (four d a b c), in_third (four d a b c), in_fourth (four d a b c))
-    by (inr (inl l)) = (listed (four a d b c), member (four a d b c) (l.0, l.1, bc) c23, in_first (four a d b c), in_third (four a d b c), in_fourth (four a d b c))
-    by (inr (inr (inl l))) = (listed (four a b d c), member (four a b d c) (ab, l.0, l.1) c34, in_first (four a b d c), in_second (four a b d c), in_fourth (four a b d c))
-    by (inr (inr (inr l))) = (listed (four a b c d), member (four a b c d) (ab, bc, l) cell, in_first (four a b c d), in_second (four a b c d), in_third (four a b c d))
-
-module _ (g : Shape) (s : IsShape g) (f : ℕ) (within : f < length g.faces) (x : Triangulation) (fine : IsFine (patch_at g f) x.triangles) (w : List ℤ) (lifts : IsRegularBy (patch_at g f) w x)
-    (order : List ℕ) (is_order : IsOrder (length g.points) order) (star : List (List ℕ)) (is : IsStar g.pair.dual g.points w order star) where
-  -- a triple of the item, from any of its corners, is below all other points
-  unit_at_corner : (t : Triangle) → Contains x.triangles t → (a b c : ℕ) → IsRotationOf t a b c → IsUnit (patch_at g f) a b c
-  unit_at_corner t i a b c r = unit_corner (patch_at g f) t a b c (fine.unit t i) r
-
-  above_corner : (t : Triangle) → Contains x.triangles t → (a b c : ℕ) → IsRotationOf t a b c → (p : ℕ) → IsOf (patch_at g f) p → p ≢ a → p ≢ b → p ≢ c → IsAbove (patch_at g f) w a b c p
-  above_corner t i a b c r p o na nb nc =
-      let q = other_than t a b c p r na nb nc in
-      at_corner (λ j k l. IsAbove (patch_at g f) w j k l p) (λ j k l. above_turn (patch_at g f) w j k l p) t a b c r (lifts t i p o q.0 q.1 q.2)
-
-  corners_together : (a b c : ℕ) → a < b → b < c → AreCorners x.triangles a b c → AreTogether star a b c
-  corners_together a b c ab bc (t, i, inl r) =
-      let v = lower_cell g s f within a b c (unit_at_corner t i a b c r) w order is_order (above_corner t i a b c r) in
-      cell_together g.pair.dual g.points w order star is a b c v.0 ab bc v.1 v.2 v.3 v.4
-  corners_together a b c ab bc (t, i, inr r) =
-      let v = lower_cell g s f within a c b (unit_at_corner t i a c b r) w order is_order (above_corner t i a c b r) in
-      cell_together g.pair.dual g.points w order star is a b c v.0 ab bc v.1 v.3 v.2 (cell23 g.pair.dual g.points (fields w order) (four a c b v.0) v.4)
+  -- the least of three points first, turned to the left
+  left_triple : (t : Triangle) → Contains x.triangles t → (a b c : ℕ) → IsOf (patch_at g f) a → IsOf (patch_at g f) b → IsOf (patch_at g f) c → a < b → a < c → pos 0 <ℤ area_of (patch_at g f) a b c
+      → AreTogether star a b c → (u : Triangle) × Contains x.triangles u × IsRotationOf u a b c
+  left_triple t i a b c oa ob oc ab ac left m =
+      lower_triple g s f within w order all x fine lifts t i a b c
+      (together_lower g s w order all star is f within a b c oa ob oc ab ac (subst (λ z. pos 0 <ℤ z) (area_wedge g s f within v a b c oa ob oc) left) m)
 
   pub star_leaves : (t : Triangle) → Contains x.triangles t → Leaves (patch_at g f) star x
-  star_leaves t i a b c ab bc oa ob oc = (together_corners g s f within x fine w lifts t i order star is a b c ab bc oa ob oc, corners_together a b c ab bc)
+  star_leaves t i a b c ab bc oa ob oc = ((λ m. by m (two_signs (area_of (patch_at g f) a b c) (together_area g s w order all star is f within a b c oa ob oc ab bc m))), corners_together a b c)
+    where
+      ac : a < c
+      ac = omega (arith, ab, bc)
+
+      by : AreTogether star a b c → (pos 0 <ℤ area_of (patch_at g f) a b c) ⊎ (pos 0 <ℤ neg_ℤ (area_of (patch_at g f) a b c)) → AreCorners x.triangles a b c
+      by m (inl l) = (let u = left_triple t i a b c oa ob oc ab ac l m in (u.0, u.1, inl u.2))
+      by m (inr l) =
+          (let u = left_triple t i a c b oa oc ob ac ab (subst (λ z. pos 0 <ℤ z) (sym (area_odd (patch_at g f) a b c)) l) (m.0, m.1, m.2, m.4, m.3) in
+          (u.0, u.1, inr u.2))
+
+-- the star of heights that extend a choice leaves the triples of its items
+pub star_induces : (g : Shape) (choice : List ℕ) (w : List ℤ) (order : List ℕ) (star : List (List ℕ)) → IsShape g → IsOrder (length g.points) order → Extends g w choice
+    → IsStar g.pair.dual g.points w order star → Induces g star choice
+star_induces g choice w order star s all extends is f within x item =
+    let t = some_triple g s f within x.triangles item.is.fine in
+    star_leaves g s w order all star is f within x item.is.fine (extends.lifts f within x item) t.0 t.1

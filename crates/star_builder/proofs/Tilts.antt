@@ -1,9 +1,9 @@
 -- A linear form that no thing of a list lies below, tilted until it touches another.
 --     tilt_along      the tilt along any gap that is not 0 at some e of the list
 --     tilt_about      the tilt about i, j and k, where some e of the list is independent of them
---     three_tilts      a form that touches three things of the list, independent with a
+--     three_held, three_tilts      a form that touches three things of the list, independent with a
 use Rattle.std.proofs.Common.{◌≡◌, ◌≢◌, refl, sym, ap, ◌∙◌, subst, arith, ℤ, pos, ◌-ℤ◌, ◌*ℤ◌, ◌<ℤ◌, ◌≤ℤ◌, neg_ℤ, List, [], ◌∷◌}
-use Rattle.std.specs.Prelude.{Contains}
+use Rattle.std.specs.Prelude.{⊤, Contains}
 use Rattle.std.proofs.lemmas.Int.{ints}
 use Rattle.ntfe_nums.specs.Vectors.{Vector, cofactors, difference, multiple}
 use Rattle.ntfe_nums.proofs.Ring.{ring}
@@ -13,7 +13,7 @@ use Rattle.ntfe_nums.proofs.Exchanges.{swap_middle, swap_last, same_first, same_
 use Rattle.star_builder.proofs.LowSimplices.{turned_not_zero}
 use Rattle.star_builder.proofs.Ratios.{tilted, IsTouched, least_ratio}
 use Rattle.star_builder.proofs.Rises.{gap, gap_tilt, volume}
-use Rattle.ntfe_nums.proofs.Signs.{square_positive, zero_out, positive_product}
+use Rattle.ntfe_nums.proofs.Signs.{square_positive, zero_out, positive_product, product_not_negative}
 
 module _ {A : Type 0} (place : A → Vector) (height : A → ℤ) (xs : List A) where
   -- no thing of the list lies below the form
@@ -37,6 +37,7 @@ module _ {A : Type 0} (place : A → Vector) (height : A → ℤ) (xs : List A) 
     pub under : IsUnder size form
     pub touches : gap place height size form y ≡ pos 0
     pub keeps : (x : A) → gap place height t u x ≡ pos 0 → gap place height size form x ≡ factor *ℤ gap place height s n x
+    pub falls : (x : A) → pos 0 ≤ℤ (gap place height t u e *ℤ gap place height t u x) → gap place height size form x ≤ℤ (factor *ℤ gap place height s n x)
 
   module _ (s : ℤ) (n : Vector) (under : IsUnder s n) (t : ℤ) (u : Vector) (e : A) (h : Contains xs e) (independent : gap place height t u e ≢ pos 0) where
     abbrev end : ℤ
@@ -77,8 +78,12 @@ module _ {A : Type 0} (place : A → Vector) (height : A → ℤ) (xs : List A) 
       touches = sym (tilt_gap y y) ∙ ring (slope y ∷ level y ∷ []) (minus (times (var 0) (var 1)) (times (var 1) (var 0))) (num (pos 0)) refl;
       keeps = λ x q. sym (tilt_gap y x) ∙ (λ i. slope y *ℤ level x -ℤ level y *ℤ (end *ℤ q i))
           ∙ ring (slope y ∷ level x ∷ level y ∷ end ∷ []) (minus (times (var 0) (var 1)) (times (var 2) (times (var 3) (num (pos 0))))) (times (var 0) (var 1)) refl;
+      falls = λ x l. less (slope y *ℤ level x) (level y *ℤ slope x) (gap place height (new_size y) (new_form y) x) (tilt_gap y x) (product_not_negative (level y) (slope x) (under y r.within) l);
     }
       where
+        less : (a b c : ℤ) → a -ℤ b ≡ c → pos 0 ≤ℤ b → c ≤ℤ a
+        less a b c q l = omega (arith, ints, q, l)
+
         no : (z : ℤ) → z ≡ pos 0 → pos 0 <ℤ z → ⊥
         no z q l = absurd (omega (arith, ints, q, l))
 
@@ -101,20 +106,27 @@ module _ {A : Type 0} (place : A → Vector) (height : A → ℤ) (xs : List A) 
     pub under : IsUnder size form
     pub touches : gap place height size form y ≡ pos 0
     pub keeps : (x : A) → volume place height i j k x ≡ pos 0 → gap place height size form x ≡ factor *ℤ gap place height s n x
+    pub falls : (x : A) → pos 0 ≤ℤ (volume place height i j k e *ℤ volume place height i j k x) → gap place height size form x ≤ℤ (factor *ℤ gap place height s n x)
+
+  -- the gap of the cofactors is the volume, turned
+  pub volume_gap : (i j k x : A) → gap place height (pos 0) (cofactors (place i) (place j) (place k)) x ≡ neg_ℤ (volume place height i j k x)
+  volume_gap i j k x = (λ q. pos 0 *ℤ height x -ℤ sym (det4-cofactors (place i) (place j) (place k) (place x)) q) ∙ turned (volume place height i j k x) (height x)
+    where
+      turned : (v z : ℤ) → pos 0 *ℤ z -ℤ v ≡ neg_ℤ v
+      turned v z = ring (v ∷ z ∷ []) (minus (times (num (pos 0)) (var 1)) (var 0)) (neg (var 0)) refl
 
   pub tilt_about : (s : ℤ) (n : Vector) → IsUnder s n → (i j k e : A) → Contains xs e → volume place height i j k e ≢ pos 0 → IsTilted s n i j k e
   tilt_about s n under i j k e h independent =
       by (tilt_along s n under (pos 0) (cofactors (place i) (place j) (place k)) e h (λ q. independent (volume_none e q)))
     where
-      turned : (v z : ℤ) → pos 0 *ℤ z -ℤ v ≡ neg_ℤ v
-      turned v z = ring (v ∷ z ∷ []) (minus (times (num (pos 0)) (var 1)) (var 0)) (neg (var 0)) refl
-
-      -- the gap of the cofactors is the volume, turned
-      volume_gap : (x : A) → gap place height (pos 0) (cofactors (place i) (place j) (place k)) x ≡ neg_ℤ (volume place height i j k x)
-      volume_gap x = (λ q. pos 0 *ℤ height x -ℤ sym (det4-cofactors (place i) (place j) (place k) (place x)) q) ∙ turned (volume place height i j k x) (height x)
+      both_turned : (x : A) → gap place height (pos 0) (cofactors (place i) (place j) (place k)) e *ℤ gap place height (pos 0) (cofactors (place i) (place j) (place k)) x
+          ≡ volume place height i j k e *ℤ volume place height i j k x
+      both_turned x =
+          (λ q. volume_gap i j k e q *ℤ volume_gap i j k x q)
+          ∙ ring (volume place height i j k e ∷ volume place height i j k x ∷ []) (times (neg (var 0)) (neg (var 1))) (times (var 0) (var 1)) refl
 
       volume_none : (x : A) → gap place height (pos 0) (cofactors (place i) (place j) (place k)) x ≡ pos 0 → volume place height i j k x ≡ pos 0
-      volume_none x q = zero _ _ (volume_gap x) q
+      volume_none x q = zero _ _ (volume_gap i j k x) q
         where
           zero : (y v : ℤ) → y ≡ neg_ℤ v → y ≡ pos 0 → v ≡ pos 0
           zero y v p r = omega (arith, ints, p, r)
@@ -123,8 +135,8 @@ module _ {A : Type 0} (place : A → Vector) (height : A → ℤ) (xs : List A) 
       by t = record {
         y = t.y;
         within = t.within;
-        same_side = subst (λ z. pos 0 <ℤ z) ((λ q. volume_gap e q *ℤ volume_gap t.y q) ∙ ring (volume place height i j k e ∷ volume place height i j k t.y ∷ []) (times (neg (var 0)) (neg (var 1))) (times (var 0) (var 1)) refl) t.same_side;
-        apart = λ q. t.apart (volume_gap t.y ∙ ap neg_ℤ q);
+        same_side = subst (λ z. pos 0 <ℤ z) (both_turned t.y) t.same_side;
+        apart = λ q. t.apart (volume_gap i j k t.y ∙ ap neg_ℤ q);
         factor = t.factor;
         positive = t.positive;
         size = t.size;
@@ -132,7 +144,8 @@ module _ {A : Type 0} (place : A → Vector) (height : A → ℤ) (xs : List A) 
         size_is = t.size_is ∙ ring (t.factor ∷ s ∷ t.other ∷ []) (minus (times (var 0) (var 1)) (times (var 2) (num (pos 0)))) (times (var 0) (var 1)) refl;
         under = t.under;
         touches = t.touches;
-        keeps = λ x q. t.keeps x (volume_gap x ∙ ap neg_ℤ q);
+        keeps = λ x q. t.keeps x (volume_gap i j k x ∙ ap neg_ℤ q);
+        falls = λ x l. t.falls x (subst (λ z. pos 0 ≤ℤ z) (sym (both_turned x)) l);
       }
 
   -- a form under the list that is 0 at i stays so where i is among the three that the tilt is about
@@ -161,44 +174,52 @@ module _ {A : Type 0} (place : A → Vector) (height : A → ℤ) (xs : List A) 
   swapped : (i j k l : A) → volume place height i j k l ≢ pos 0 → volume place height i j l k ≢ pos 0
   swapped i j k l q = turned_not_zero (volume place height i j k l) (volume place height i j l k) (swap_last (place i) (place j) (place k) (place l)) q
 
+  -- where each tilt keeps some property of the form, so do all three
+  module _ (Holds : ℤ → Vector → Type 0)
+      (turn : (s : ℤ) (n : Vector) → IsUnder s n → Holds s n → (i j k z : A) → Contains xs z → volume place height i j k z ≢ pos 0 → (e : A) × (t : IsTilted s n i j k e) × Holds t.size t.form) where
+    pub three_held : (s : ℤ) (n : Vector) → IsUnder s n → Holds s n → (a b c d : A) → Contains xs b → Contains xs c → Contains xs d → volume place height a b c d ≢ pos 0
+        → (t : IsThrice s n a) × Holds t.size t.form
+    three_held s n under held a b c d hb hc hd independent = first (turn s n under held a b c d hd independent)
+      where
+        product_first : (f1 f2 f3 z : ℤ) → f3 *ℤ (f2 *ℤ (f1 *ℤ z)) ≡ ((f3 *ℤ f2) *ℤ f1) *ℤ z
+        product_first f1 f2 f3 z = ring (f1 ∷ f2 ∷ f3 ∷ z ∷ []) (times (var 2) (times (var 1) (times (var 0) (var 3)))) (times (times (times (var 2) (var 1)) (var 0)) (var 3)) refl
+
+        third : (e1 e2 e3 : A) (t : IsTilted s n a b c e1) (u : IsTilted t.size t.form a b t.y e2) (r : IsTilted u.size u.form a t.y u.y e3) → Holds r.size r.form → (t : IsThrice s n a) × Holds t.size t.form
+        third e1 e2 e3 t u r h = (
+          record {
+            y1 = t.y;
+            y2 = u.y;
+            y3 = r.y;
+            within = (t.within, u.within, r.within);
+            independent = r.apart;
+            factor = (r.factor *ℤ u.factor) *ℤ t.factor;
+            positive = positive_product (r.factor *ℤ u.factor) t.factor (positive_product r.factor u.factor r.positive u.positive) t.positive;
+            size = r.size;
+            form = r.form;
+            size_is = r.size_is ∙ ap (λ z. r.factor *ℤ z) (u.size_is ∙ ap (λ z. u.factor *ℤ z) t.size_is) ∙ product_first t.factor u.factor r.factor s;
+            under = r.under;
+            touches = (
+              keeps_zero u.size u.form a t.y u.y e3 r t.y (same_second (place a) (place t.y) (place u.y)) (keeps_zero t.size t.form a b t.y e2 u t.y (same_third (place a) (place b) (place t.y)) t.touches),
+              keeps_zero u.size u.form a t.y u.y e3 r u.y (same_third (place a) (place t.y) (place u.y)) u.touches,
+              r.touches,
+            );
+            keeps = r.keeps a (same_first (place a) (place t.y) (place u.y))
+                ∙ ap (λ z. r.factor *ℤ z) (u.keeps a (same_first (place a) (place b) (place t.y)) ∙ ap (λ z. u.factor *ℤ z) (t.keeps a (same_first (place a) (place b) (place c))))
+                ∙ product_first t.factor u.factor r.factor (gap place height s n a);
+          },
+          h,
+        )
+
+        -- b moves behind the two that are touched
+        behind : (b y z : A) → volume place height a b y z ≢ pos 0 → volume place height a y z b ≢ pos 0
+        behind b y z q = swapped a y b z (turned_not_zero (volume place height a b y z) (volume place height a y b z) (swap_middle (place a) (place b) (place y) (place z)) q)
+
+        second : (e1 : A) (t : IsTilted s n a b c e1) → (e2 : A) × (u : IsTilted t.size t.form a b t.y e2) × Holds u.size u.form → (t : IsThrice s n a) × Holds t.size t.form
+        second e1 t (e2, u, h) = let r = turn u.size u.form u.under h a t.y u.y b hb (behind b t.y u.y u.apart) in third e1 e2 r.0 t u r.1 r.2
+
+        first : (e1 : A) × (t : IsTilted s n a b c e1) × Holds t.size t.form → (t : IsThrice s n a) × Holds t.size t.form
+        first (e1, t, h) = second e1 t (turn t.size t.form t.under h a b t.y c hc (swapped a b c t.y t.apart))
+
   pub three_tilts : (s : ℤ) (n : Vector) → IsUnder s n → (a b c d : A) → Contains xs b → Contains xs c → Contains xs d → volume place height a b c d ≢ pos 0 → IsThrice s n a
-  three_tilts s n under a b c d hb hc hd independent = first (tilt_about s n under a b c d hd independent)
-    where
-      product_first : (f1 f2 f3 z : ℤ) → f3 *ℤ (f2 *ℤ (f1 *ℤ z)) ≡ ((f3 *ℤ f2) *ℤ f1) *ℤ z
-      product_first f1 f2 f3 z = ring (f1 ∷ f2 ∷ f3 ∷ z ∷ []) (times (var 2) (times (var 1) (times (var 0) (var 3)))) (times (times (times (var 2) (var 1)) (var 0)) (var 3)) refl
-
-      third : (t : IsTilted s n a b c d) (u : IsTilted t.size t.form a b t.y c) → IsTilted u.size u.form a t.y u.y b → IsThrice s n a
-      third t u r = record {
-        y1 = t.y;
-        y2 = u.y;
-        y3 = r.y;
-        within = (t.within, u.within, r.within);
-        independent = r.apart;
-        factor = (r.factor *ℤ u.factor) *ℤ t.factor;
-        positive = positive_product (r.factor *ℤ u.factor) t.factor (positive_product r.factor u.factor r.positive u.positive) t.positive;
-        size = r.size;
-        form = r.form;
-        size_is = r.size_is ∙ ap (λ z. r.factor *ℤ z) (u.size_is ∙ ap (λ z. u.factor *ℤ z) t.size_is) ∙ product_first t.factor u.factor r.factor s;
-        under = r.under;
-        touches = (
-          keeps_zero u.size u.form a t.y u.y b r t.y (same_second (place a) (place t.y) (place u.y)) (keeps_zero t.size t.form a b t.y c u t.y (same_third (place a) (place b) (place t.y)) t.touches),
-          keeps_zero u.size u.form a t.y u.y b r u.y (same_third (place a) (place t.y) (place u.y)) u.touches,
-          r.touches,
-        );
-        keeps = r.keeps a (same_first (place a) (place t.y) (place u.y))
-            ∙ ap (λ z. r.factor *ℤ z) (u.keeps a (same_first (place a) (place b) (place t.y)) ∙ ap (λ z. u.factor *ℤ z) (t.keeps a (same_first (place a) (place b) (place c))))
-            ∙ product_first t.factor u.factor r.factor (gap place height s n a);
-      }
-
-      second : (t : IsTilted s n a b c d) → IsTilted t.size t.form a b t.y c → IsThrice s n a
-      second t u = third t u (tilt_about u.size u.form u.under a t.y u.y b hb (turned b t.y u.y u.apart))
-        where
-          -- b moves behind the two that are touched
-          turned : (b y z : A) → volume place height a b y z ≢ pos 0 → volume place height a y z b ≢ pos 0
-          turned b y z q = swapped a y b z (middle b y z q)
-            where
-              middle : (b y z : A) → volume place height a b y z ≢ pos 0 → volume place height a y b z ≢ pos 0
-              middle b y z k = turned_not_zero (volume place height a b y z) (volume place height a y b z) (swap_middle (place a) (place b) (place y) (place z)) k
-
-      first : IsTilted s n a b c d → IsThrice s n a
-      first t = second t (tilt_about t.size t.form t.under a b t.y c hc (swapped a b c t.y t.apart))
+  three_tilts s n under a b c d hb hc hd independent =
+      (three_held (λ s n. ⊤) (λ s n under h i j k z hz q. (z, tilt_about s n under i j k z hz q, tt)) s n under tt a b c d hb hc hd independent).0

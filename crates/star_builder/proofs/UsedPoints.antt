@@ -1,4 +1,4 @@
--- A point that a low simplex uses lies no higher than any mixture of other points in its place.
+-- A point that a low simplex uses lies no higher than any combination of other points in its place.
 --     IsUsed      the point is the last of a low simplex of some facet
 --     used_below      its height, and those of three points that mix to it
 use Rattle.std.proofs.Common.{◌≡◌, ℕ, ⊎_elim, refl, sym, ap, ◌∙◌, subst, arith, ℤ, pos, negsuc, ◌+ℤ◌, ◌-ℤ◌, ◌*ℤ◌, ◌≤ℤ◌, List, [], ◌∷◌}
@@ -14,7 +14,7 @@ use Rattle.ntfe_model.proofs.PlaneNumbers.{zero_factor}
 use Rattle.star_builder.proofs.FourWeights.{Weights, IsMixOf, dot_mix}
 use Rattle.star_builder.proofs.LowSimplices.{IsLow}
 use Rattle.star_builder.proofs.Rises.{gap, gap_multiple, rise, rise_gap, rise_first, rise_second, rise_third, rise_fourth, through, volume}
-use Rattle.ntfe_nums.proofs.Signs.{factor_not_negative, product_not_negative, same_or, square_positive, zero_out, not_negative}
+use Rattle.ntfe_nums.proofs.Signs.{factor_not_negative, product_not_negative, same_or, square_positive, zero_out, not_negative, zero_not_negative}
 
 -- the weights of three points that mix to a fourth
 abbrev pub three_weights : ℤ → ℤ → ℤ → ℤ → Weights
@@ -36,11 +36,8 @@ module _ (xs : List Point) (v : ℕ → ℤ) (m : Vector) (a b c d : ℕ) (low :
       ⊎_elim (level d (rise_fourth at v a b c d)) (λ nd. not_negative (det *ℤ rise at v a b c d x) (low.above x n na nb nc nd t))
       (same_or x d)) (same_or x c)) (same_or x b)) (same_or x a)
     where
-      zero : (z : ℤ) → z ≡ pos 0 → pos 0 ≤ℤ z
-      zero z e = omega (arith, ints, e)
-
       level : (k : ℕ) → rise (place_of_point xs) v a b c d k ≡ pos 0 → x ≡ k → pos 0 ≤ℤ (volume (place_of_point xs) v a b c d *ℤ rise (place_of_point xs) v a b c d x)
-      level k z e = zero (det *ℤ rise at v a b c d x) (zero_out det (rise at v a b c d x) (ap (rise at v a b c d) e ∙ z))
+      level k z e = zero_not_negative (det *ℤ rise at v a b c d x) (zero_out det (rise at v a b c d x) (ap (rise at v a b c d) e ∙ z))
 
 -- the point is the last of a low simplex of a facet, beyond which no point lies
 pub record IsUsed (xs : List Point) (v : ℕ → ℤ) (p : ℕ) : Type 0 where
@@ -106,13 +103,10 @@ module _ (xs : List Point) (v : ℕ → ℤ) (p : ℕ) (used : IsUsed xs v p) (a
     weighed_over : (l : ℤ) → pos 0 ≤ℤ l → (x : ℕ) → IsNumberOf xs x → apart l x ≡ pos 0 → pos 0 ≤ℤ (l *ℤ over x)
     unfolding apart
     weighed_over l h x n e =
-        ⊎_elim (λ z. not_below (l *ℤ over x) (ap (λ q. q *ℤ over x) z ∙ omega (arith, ints)))
+        ⊎_elim (λ z. zero_not_negative (l *ℤ over x) (ap (λ q. q *ℤ over x) z ∙ omega (arith, ints)))
         (λ z. product_not_negative l (over x) h (subst (λ y. pos 0 ≤ℤ y) (over_is x) (low_over xs v used.facet used.i used.j used.k p used.low x n (tight (dot used.facet (spot x)) z))))
         (zero_factor l (dot used.facet (spot x) +ℤ pos 1) e)
       where
-        not_below : (z : ℤ) → z ≡ pos 0 → pos 0 ≤ℤ z
-        not_below z e = omega (arith, ints, e)
-
         tight : (z : ℤ) → z +ℤ pos 1 ≡ pos 0 → z ≡ negsuc 0
         tight z e = omega (arith, ints, e)
 

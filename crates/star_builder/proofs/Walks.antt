@@ -7,7 +7,7 @@ use Rattle.ntfe_nums.specs.Vectors.{Vector, dot}
 use Rattle.ntfe_nums.proofs.Exchanges.{cramer_form, same_first, same_second, same_third}
 use Rattle.ntfe_nums.proofs.Ring.{ring}
 use Rattle.ntfe_nums.proofs.Ring.Expression.{var, num, plus, minus, times, neg}
-use Rattle.ntfe_nums.proofs.Signs.{not_negative, product_not_negative, positive_product, same_or, square_not_negative, square_positive, zero_out}
+use Rattle.ntfe_nums.proofs.Signs.{not_negative, product_not_negative, positive_product, same_or, square_not_negative, square_positive, zero_out, negative_turned, sign_of, zero_between, zero_not_negative, positive_some}
 use Rattle.ntfe_model.specs.Lists.{IsNumberOf}
 use Rattle.ntfe_model.specs.Points.{place_of_point}
 use Rattle.ntfe_model.specs.Reflexive.{IsTight}
@@ -38,10 +38,7 @@ nearer V W k x1 x2 x3 x4 r1 r2 r3 r4 s1 s2 s3 s4 e1 e2 e3 e4 =
 
 -- two numbers below 0
 both_negative : (x y : ℤ) → x <ℤ pos 0 → y <ℤ pos 0 → pos 0 <ℤ (x *ℤ y)
-both_negative x y l k = subst (λ z. pos 0 <ℤ z) (ring (x ∷ y ∷ []) (times (neg (var 0)) (neg (var 1))) (times (var 0) (var 1)) refl) (positive_product (neg_ℤ x) (neg_ℤ y) (turned x l) (turned y k))
-  where
-    turned : (z : ℤ) → z <ℤ pos 0 → pos 0 <ℤ neg_ℤ z
-    turned z l = omega (arith, ints, l)
+both_negative x y l k = subst (λ z. pos 0 <ℤ z) (ring (x ∷ y ∷ []) (times (neg (var 0)) (neg (var 1))) (times (var 0) (var 1)) refl) (positive_product (neg_ℤ x) (neg_ℤ y) (negative_turned x l) (negative_turned y k))
 
 no_nearer : (V W k X : ℤ) → (V *ℤ W) <ℤ pos 0 → pos 0 <ℤ (V *ℤ k) → (V *ℤ X) <ℤ pos 0 → (z : ℤ) → pos 0 ≤ℤ z → z ≡ neg_ℤ ((V *ℤ W) *ℤ (k *ℤ X)) → ⊥
 no_nearer V W k X l p n z o e =
@@ -52,7 +49,7 @@ no_nearer V W k X l p n z o e =
     clash : (x y : ℤ) → pos 0 ≤ℤ x → pos 0 <ℤ y → x ≡ neg_ℤ y → ⊥
     clash x y l k e = absurd (omega (arith, ints, l, k, e))
 
--- the target's form at the sum of its points, by the mixture of a simplex
+-- the target's form at the sum of its points, by the combination of a simplex
 balanced : (V W A B C D r1 r2 r3 r4 : ℤ) (f1 f2 f3 f4 g1 g2 g3 g4 h1 h2 h3 h4 k1 k2 k3 k4 : ℤ)
     → pos 0 ≡ f1 *ℤ A +ℤ g1 *ℤ B +ℤ h1 *ℤ C +ℤ k1 *ℤ D +ℤ W *ℤ r1 → pos 0 ≡ f2 *ℤ A +ℤ g2 *ℤ B +ℤ h2 *ℤ C +ℤ k2 *ℤ D +ℤ W *ℤ r2
     → pos 0 ≡ f3 *ℤ A +ℤ g3 *ℤ B +ℤ h3 *ℤ C +ℤ k3 *ℤ D +ℤ W *ℤ r3 → pos 0 ≡ f4 *ℤ A +ℤ g4 *ℤ B +ℤ h4 *ℤ C +ℤ k4 *ℤ D +ℤ W *ℤ r4
@@ -70,14 +67,8 @@ balanced V W A B C D r1 r2 r3 r4 f1 f2 f3 f4 g1 g2 g3 g4 h1 h2 h3 h4 k1 k2 k3 k4
     ∙ ring (V ∷ W ∷ []) (times (times (var 0) (var 1)) (plus (plus (plus (num (pos 0)) (num (pos 0))) (num (pos 0))) (num (pos 0)))) (num (pos 0)) refl
 
 last_zero : (x1 x2 x3 x4 w r : ℤ) → pos 0 ≤ℤ x1 → pos 0 ≤ℤ x2 → pos 0 ≤ℤ x3 → pos 0 ≤ℤ x4 → pos 0 <ℤ w → pos 0 ≤ℤ r → x1 +ℤ x2 +ℤ x3 +ℤ x4 +ℤ w *ℤ r ≡ pos 0 → r ≡ pos 0
-last_zero x1 x2 x3 x4 w r l1 l2 l3 l4 p o e = ⊎_elim (λ k. absurd (clash (w *ℤ r) (positive_product w r p k) e)) (λ k. none r o k) (positive_or r)
+last_zero x1 x2 x3 x4 w r l1 l2 l3 l4 p o e = ⊎_elim (λ k. absurd (clash (w *ℤ r) (positive_product w r p k) e)) (λ k. zero_between r o k) (sign_of r)
   where
-    positive_or : (z : ℤ) → (pos 0 <ℤ z) ⊎ (z ≤ℤ pos 0)
-    positive_or z = grind (arith, ints)
-
-    none : (z : ℤ) → pos 0 ≤ℤ z → z ≤ℤ pos 0 → z ≡ pos 0
-    none z l k = omega (arith, ints, l, k)
-
     clash : (y : ℤ) → pos 0 <ℤ y → x1 +ℤ x2 +ℤ x3 +ℤ x4 +ℤ y ≡ pos 0 → ⊥
     clash y k e = absurd (omega (arith, ints, l1, l2, l3, l4, k, e))
 
@@ -136,16 +127,10 @@ module _ (xs : List Point) (v : ℕ → ℤ) (m : Vector) where
     on_level x (inr (inr (inr e))) = ap (ris a b c d) e ∙ rise_fourth at v a b c d
 
     pub not_under : (x : ℕ) → IsNumberOf xs x → IsTight m (at x) → pos 0 ≤ℤ (vol a b c d *ℤ ris a b c d x)
-    not_under x n t = ⊎_elim (λ o. level _ (zero_out (vol a b c d) (ris a b c d x) (on_level x o))) (λ l. not_negative (vol a b c d *ℤ ris a b c d x) l) (one_or_above x n t)
-      where
-        level : (z : ℤ) → z ≡ pos 0 → pos 0 ≤ℤ z
-        level z e = omega (arith, ints, e)
+    not_under x n t = ⊎_elim (λ o. zero_not_negative _ (zero_out (vol a b c d) (ris a b c d x) (on_level x o))) (λ l. not_negative (vol a b c d *ℤ ris a b c d x) l) (one_or_above x n t)
 
     pub level_one : (x : ℕ) → IsNumberOf xs x → IsTight m (at x) → vol a b c d *ℤ ris a b c d x ≡ pos 0 → IsOneOf a b c d x
-    level_one x n t e = ⊎_elim (λ o. o) (λ l. absurd (no (vol a b c d *ℤ ris a b c d x) l e)) (one_or_above x n t)
-      where
-        no : (z : ℤ) → pos 0 <ℤ z → z ≡ pos 0 → ⊥
-        no z l e = absurd (omega (arith, ints, l, e))
+    level_one x n t e = ⊎_elim (λ o. o) (λ l. absurd (positive_some (vol a b c d *ℤ ris a b c d x) l e)) (one_or_above x n t)
 
   module _ (i j k l : ℕ) (target : IsLow xs v m i j k l) where
     -- a sum over the target's points

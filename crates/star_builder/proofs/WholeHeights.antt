@@ -1,8 +1,10 @@
 -- Whole heights that tell which points are lexicographically above four others, and with which no point lies level.
 --     whole w order k      the height of k, with its place in the order of pushing as a small change
 --     lex_rises, rises_lex      p is lexicographically above a, b, c, d exactly where it rises above them at the whole heights
+--     decide_lex      whether it is
+--     rises_up, rises_least      what the heights alone say
 --     never_level      it is above or below
-use Rattle.std.proofs.Common.{◌≡◌, ◌≢◌, ℕ, zero, suc, ◌+◌, ◌≤◌, ◌==◌, ◌⊎◌, inl, inr, ⊎_elim, Bool, true, false, cond, refl, sym, ap, ◌∙◌, subst, arith, ℤ, pos, negsuc, ◌+ℤ◌, ◌-ℤ◌, ◌*ℤ◌, ◌<ℤ◌, neg_ℤ, List, [], ◌∷◌, map, unsigned_abs}
+use Rattle.std.proofs.Common.{◌≡◌, ◌≢◌, ℕ, zero, suc, ◌+◌, ◌≤◌, ◌==◌, ◌⊎◌, inl, inr, ⊎_elim, Bool, true, false, cond, refl, sym, ap, ◌∙◌, subst, arith, ℤ, pos, negsuc, ◌+ℤ◌, ◌-ℤ◌, ◌*ℤ◌, ◌<ℤ◌, ◌≤ℤ◌, neg_ℤ, List, [], ◌∷◌, map, unsigned_abs}
 use Rattle.std.specs.Prelude.{Contains}
 use Rattle.std.proofs.lemmas.Int.{ints}
 use Rattle.ntfe_nums.specs.Vectors.{Vector, vector_sum, multiple, det4, sign}
@@ -13,15 +15,17 @@ use Rattle.ntfe_nums.proofs.Machine.{value-size}
 use Rattle.ntfe_model.specs.Pairs.{IsSmall}
 use Rattle.ntfe_model.specs.Points.{place_of_point}
 use Rattle.ntfe_model.specs.Choices.{height}
-use Rattle.ntfe_model.specs.Stars.{IsFirstPositive, IsMixture, IsLexAbove, push_coefficient}
+use Rattle.ntfe_model.specs.Stars.{IsFirstPositive, IsCombination, IsLexAbove, push_coefficient}
 use Rattle.ntfe_model.specs.declared.point.Point.{Point}
 use Rattle.ntfe_model.proofs.Listings.{Contains-cases, Contains-none}
 use Rattle.ntfe_model.proofs.SmallVectors.{small_size}
 use Rattle.ntfe_model.proofs.PlaneNumbers.{positive_factor}
+use Rattle.ntfe_model.proofs.Triples.{Decided}
 use Rattle.ntfe_nums.proofs.Exchanges.{cramer2, cramer3, cramer4}
 use Rattle.ntfe_nums.proofs.Comparisons.{same_from_test, other_from_test, cond_is}
-use Rattle.ntfe_nums.proofs.Signs.{positive_product}
-use Rattle.star_builder.proofs.FourPoints.{one_at, one_here, one_elsewhere, factors_fixed}
+use Rattle.ntfe_nums.proofs.Signs.{not_negative, positive_product, product_not_negative, zero_not_negative}
+use Rattle.star_builder.proofs.FourPoints.{one_at, one_here, one_elsewhere}
+use Rattle.star_builder.proofs.Combinations.{rises_of_above}
 use Rattle.star_builder.proofs.Rises.{rise, volume}
 use Rattle.star_builder.proofs.Weights.{weight, weighed, leader_decides}
 
@@ -82,6 +86,9 @@ sign_out z r n l = subst (λ y. pos 0 <ℤ y) (sign_twice z r) (positive_product
 pub sign_in : (z r : ℤ) → z ≢ pos 0 → pos 0 <ℤ (z *ℤ r) → pos 0 <ℤ (sign z *ℤ r)
 sign_in z r n l = positive_factor (sign z *ℤ r) (pos (unsigned_abs z)) (size_above z n) (subst (λ y. pos 0 <ℤ y) (sym (sign_twice z r)) l)
 
+sign_out_least : (z r : ℤ) → pos 0 ≤ℤ (sign z *ℤ r) → pos 0 ≤ℤ (z *ℤ r)
+sign_out_least z r l = subst (λ y. pos 0 ≤ℤ y) (sign_twice z r) (product_not_negative (sign z *ℤ r) (pos (unsigned_abs z)) l (omega (arith, ints)))
+
 -- ---- the first number that is not 0
 
 -- positive, or negative, or there is none
@@ -106,6 +113,21 @@ first_of f (j ∷ js) (pos zero) = by (first_of f js (f j))
     by (inr (inl p)) = inr (inl (inr (refl, p)))
     by (inr (inr rest)) =
         ⊎_elim (λ p. inl (inr (refl, inl p))) (λ q. ⊎_elim (λ p. inr (inl (inr (refl, inl p)))) (λ e. inr (inr (none rest e))) q) (zero_at (f j))
+
+-- whether it is
+decide_first_positive : (zs : List ℤ) → Decided (IsFirstPositive zs)
+decide_first_positive [] = inr (λ q. q)
+decide_first_positive (pos (suc n) ∷ zs) = inl (inl (omega (arith, ints)))
+decide_first_positive (negsuc n ∷ zs) = inr below
+  where
+    below : (pos 0 <ℤ negsuc n) ⊎ ((negsuc n ≡ pos 0) × IsFirstPositive zs) → ⊥
+    below (inl l) = absurd (omega (arith, ints, l))
+    below (inr (e, q)) = absurd (omega (arith, ints, e))
+decide_first_positive (pos zero ∷ zs) = ⊎_elim (λ q. inl (inr (refl, q))) (λ n. inr (level n)) (decide_first_positive zs)
+  where
+    level : (IsFirstPositive zs → ⊥) → (pos 0 <ℤ pos 0) ⊎ ((pos 0 ≡ pos 0) × IsFirstPositive zs) → ⊥
+    level n (inl l) = absurd (omega (arith, ints, l))
+    level n (inr (e, q)) = n q
 
 -- ---- push coefficients as sums
 
@@ -219,9 +241,7 @@ module _ (w : List ℤ) (order : List ℕ) where
       (plus (times (var 5) (fourE (var 6) (var 7) (var 8) (var 9) (var 10))) (fourE (var 11) (var 12) (var 13) (var 14) (var 15)))
       (fourE (s 6) (s 7) (s 8) (s 9) (s 10)) refl
 
-  module _ (xs : List Point) (a b c d p : ℕ) (five : AreFive a b c d p) (in_order : Contains order p)
-      (sa : IsSmall (place_of_point xs a)) (sb : IsSmall (place_of_point xs b)) (sc : IsSmall (place_of_point xs c)) (sd : IsSmall (place_of_point xs d)) (sp : IsSmall (place_of_point xs p))
-      (independent : volume (place_of_point xs) whole a b c d ≢ pos 0) where
+  module _ (xs : List Point) (a b c d p : ℕ) (independent : volume (place_of_point xs) whole a b c d ≢ pos 0) where
     abbrev at : ℕ → Vector
     at = place_of_point xs
 
@@ -257,15 +277,8 @@ module _ (w : List ℤ) (order : List ℕ) where
           x4 = by (at p).x4 (at a).x4 (at b).x4 (at c).x4 (at d).x4 (cramer4 (at a) (at b) (at c) (at d) (at p)) i;
         }
 
-    mixture : IsMixture xs a b c d p size0 m1 m2 m3 m4
-    mixture = record { size_is = sym (size_of_sign (det a b c d)); mix = mix }
-
-    -- every mixture has these multipliers
-    multipliers : (size l1 l2 l3 l4 : ℤ) → IsMixture xs a b c d p size l1 l2 l3 l4 → (size ≡ size0) × (l1 ≡ m1) × (l2 ≡ m2) × (l3 ≡ m3) × (l4 ≡ m4)
-    multipliers size l1 l2 l3 l4 m =
-        let e : size ≡ size0 = m.size_is ∙ size_of_sign (det a b c d) in
-        let f = factors_fixed (at a) (at b) (at c) (at d) independent l1 l2 l3 l4 m1 m2 m3 m4 (sym m.mix ∙ ap (λ k. multiple k (at p)) e ∙ mix) in
-        (e, f.0, f.1, f.2, f.3)
+    combination : IsCombination xs a b c d p size0 m1 m2 m3 m4
+    combination = record { size_is = sym (size_of_sign (det a b c d)); mix = mix }
 
     abbrev coefficient : ℕ → ℤ
     coefficient = push_coefficient size0 (a, m1) (b, m2) (c, m3) (d, m4) p
@@ -273,99 +286,119 @@ module _ (w : List ℤ) (order : List ℕ) where
     abbrev head : ℤ
     head = four_factors size0 m1 m2 m3 m4 (height w p) (height w a) (height w b) (height w c) (height w d)
 
-    coefficient_small : (k : ℕ) → unsigned_abs (coefficient k) ≤ volume_bound
-    coefficient_small =
-        let small = λ (y : ℤ) (l : unsigned_abs y ≤ volume_bound). signed_small (det a b c d) y volume_bound l in
-        push_small a b c d p five size0 m1 m2 m3 m4 volume_bound
-        (small (det a b c d) (volume_small (at a) (at b) (at c) (at d) sa sb sc sd))
-        (small (det p b c d) (volume_small (at p) (at b) (at c) (at d) sp sb sc sd))
-        (small (det a p c d) (volume_small (at a) (at p) (at c) (at d) sa sp sc sd))
-        (small (det a b p d) (volume_small (at a) (at b) (at p) (at d) sa sb sp sd))
-        (small (det a b c p) (volume_small (at a) (at b) (at c) (at p) sa sb sc sp))
-
-    signed_rise : four_factors size0 m1 m2 m3 m4 (whole p) (whole a) (whole b) (whole c) (whole d) ≡ side *ℤ rise at whole a b c d p
-    signed_rise =
+    -- at any heights
+    signed_rise : (h : ℕ → ℤ) → four_factors size0 m1 m2 m3 m4 (h p) (h a) (h b) (h c) (h d) ≡ side *ℤ rise at h a b c d p
+    signed_rise h =
         let t = λ (i : ℕ). times (var i) (var (i + 5)) in
         let u = λ (i : ℕ). times (times (var 11) (var i)) (var (i + 5)) in
-        ring (det a b c d ∷ det p b c d ∷ det a p c d ∷ det a b p d ∷ det a b c p ∷ whole p ∷ whole a ∷ whole b ∷ whole c ∷ whole d ∷ pos 0 ∷ side ∷ [])
+        ring (det a b c d ∷ det p b c d ∷ det a p c d ∷ det a b p d ∷ det a b c p ∷ h p ∷ h a ∷ h b ∷ h c ∷ h d ∷ pos 0 ∷ side ∷ [])
         (minus (u 0) (plus (plus (plus (u 1) (u 2)) (u 3)) (u 4)))
         (times (var 11) (minus (t 0) (plus (plus (plus (t 1) (t 2)) (t 3)) (t 4)))) refl
 
-    weighed_rise : pos (weight volume_bound order) *ℤ head +ℤ weighed volume_bound coefficient order ≡ side *ℤ rise at whole a b c d p
-    weighed_rise =
-        ap (λ z. pos (weight volume_bound order) *ℤ head +ℤ z) (push_weighed a b c d p five size0 m1 m2 m3 m4 volume_bound order)
-        ∙ whole_factors size0 m1 m2 m3 m4 a b c d p ∙ signed_rise
+    lex_leads : IsLexAbove xs w order a b c d p → IsFirstPositive (head ∷ map coefficient order)
+    lex_leads r = rises_of_above xs w order a b c d p size0 m1 m2 m3 m4 independent combination r
 
-    leads_rises : IsFirstPositive (head ∷ map coefficient order) → pos 0 <ℤ (side *ℤ rise at whole a b c d p)
-    leads_rises l = subst (λ y. pos 0 <ℤ y) weighed_rise (leader_decides volume_bound coefficient coefficient_small order head l)
+    leads_lex : IsFirstPositive (head ∷ map coefficient order) → IsLexAbove xs w order a b c d p
+    leads_lex f = record { l1 = m1; l2 = m2; l3 = m3; l4 = m4; size = size0; combination = combination; above = f }
 
-    -- where the first number is negative, p is below
-    trails_falls : IsFirstPositive (neg_ℤ head ∷ map (λ k. neg_ℤ (coefficient k)) order) → pos 0 <ℤ neg_ℤ (side *ℤ rise at whole a b c d p)
-    trails_falls l =
-        subst (λ y. pos 0 <ℤ y) (ap (λ z. pos (weight volume_bound order) *ℤ neg_ℤ head +ℤ z) (turned order) ∙ out (pos (weight volume_bound order)) head (weighed volume_bound coefficient order) ∙ ap neg_ℤ weighed_rise)
-        (leader_decides volume_bound (λ k. neg_ℤ (coefficient k)) (λ k. small (coefficient k) (coefficient_small k)) order (neg_ℤ head) l)
-      where
-        small : (z : ℤ) → unsigned_abs z ≤ volume_bound → unsigned_abs (neg_ℤ z) ≤ volume_bound
-        small z k = omega (arith, ints, k)
+    pub decide_lex : Decided (IsLexAbove xs w order a b c d p)
+    decide_lex = ⊎_elim (λ f. inl (leads_lex f)) (λ n. inr (λ r. n (lex_leads r))) (decide_first_positive (head ∷ map coefficient order))
 
-        out : (t z r : ℤ) → t *ℤ neg_ℤ z +ℤ neg_ℤ r ≡ neg_ℤ (t *ℤ z +ℤ r)
-        out t z r = ring (t ∷ z ∷ r ∷ []) (plus (times (var 0) (neg (var 1))) (neg (var 2))) (neg (plus (times (var 0) (var 1)) (var 2))) refl
+    module _ (five : AreFive a b c d p) (in_order : Contains order p)
+        (sa : IsSmall (place_of_point xs a)) (sb : IsSmall (place_of_point xs b)) (sc : IsSmall (place_of_point xs c)) (sd : IsSmall (place_of_point xs d)) (sp : IsSmall (place_of_point xs p)) where
+      coefficient_small : (k : ℕ) → unsigned_abs (coefficient k) ≤ volume_bound
+      coefficient_small =
+          let small = λ (y : ℤ) (l : unsigned_abs y ≤ volume_bound). signed_small (det a b c d) y volume_bound l in
+          push_small a b c d p five size0 m1 m2 m3 m4 volume_bound
+          (small (det a b c d) (volume_small (at a) (at b) (at c) (at d) sa sb sc sd))
+          (small (det p b c d) (volume_small (at p) (at b) (at c) (at d) sp sb sc sd))
+          (small (det a p c d) (volume_small (at a) (at p) (at c) (at d) sa sp sc sd))
+          (small (det a b p d) (volume_small (at a) (at b) (at p) (at d) sa sb sp sd))
+          (small (det a b c p) (volume_small (at a) (at b) (at c) (at p) sa sb sc sp))
 
-        turned : (ks : List ℕ) → weighed volume_bound (λ k. neg_ℤ (coefficient k)) ks ≡ neg_ℤ (weighed volume_bound coefficient ks)
-        turned [] = refl
-        turned (k ∷ ks) = ap (λ z. pos (weight volume_bound ks) *ℤ neg_ℤ (coefficient k) +ℤ z) (turned ks) ∙ out (pos (weight volume_bound ks)) (coefficient k) (weighed volume_bound coefficient ks)
+      weighed_rise : pos (weight volume_bound order) *ℤ head +ℤ weighed volume_bound coefficient order ≡ side *ℤ rise at whole a b c d p
+      weighed_rise =
+          ap (λ z. pos (weight volume_bound order) *ℤ head +ℤ z) (push_weighed a b c d p five size0 m1 m2 m3 m4 volume_bound order)
+          ∙ whole_factors size0 m1 m2 m3 m4 a b c d p ∙ signed_rise whole
 
-    -- the coefficient of p itself is not 0
-    some_coefficient : ((k : ℕ) → Contains order k → coefficient k ≡ pos 0) → ⊥
-    some_coefficient none = no (det a b c d) independent (size_of_sign (det a b c d) ∙ sym (at_itself (p == p) refl) ∙ none p in_order)
-      where
-        at_itself : (t : Bool) → (p == p) ≡ t → coefficient p ≡ size0
-        at_itself true e = ap (λ s. cond s size0 (cond (p == a) (neg_ℤ m1) (cond (p == b) (neg_ℤ m2) (cond (p == c) (neg_ℤ m3) (cond (p == d) (neg_ℤ m4) (pos 0)))))) e
-        at_itself false e = absurd (other_from_test p p e refl)
+      leads_rises : IsFirstPositive (head ∷ map coefficient order) → pos 0 <ℤ (side *ℤ rise at whole a b c d p)
+      leads_rises l = subst (λ y. pos 0 <ℤ y) weighed_rise (leader_decides volume_bound coefficient coefficient_small order head l)
 
-        no : (z : ℤ) → z ≢ pos 0 → pos (unsigned_abs z) ≡ pos 0 → ⊥
-        no z n e = absurd (let l = size_above z n in omega (arith, ints, l, e))
+      -- where the first number is negative, p is below
+      trails_falls : IsFirstPositive (neg_ℤ head ∷ map (λ k. neg_ℤ (coefficient k)) order) → pos 0 <ℤ neg_ℤ (side *ℤ rise at whole a b c d p)
+      trails_falls l =
+          subst (λ y. pos 0 <ℤ y) (ap (λ z. pos (weight volume_bound order) *ℤ neg_ℤ head +ℤ z) (turned order) ∙ out (pos (weight volume_bound order)) head (weighed volume_bound coefficient order) ∙ ap neg_ℤ weighed_rise)
+          (leader_decides volume_bound (λ k. neg_ℤ (coefficient k)) (λ k. small (coefficient k) (coefficient_small k)) order (neg_ℤ head) l)
+        where
+          small : (z : ℤ) → unsigned_abs z ≤ volume_bound → unsigned_abs (neg_ℤ z) ≤ volume_bound
+          small z k = omega (arith, ints, k)
 
-    decided : IsFirstPositive (head ∷ map coefficient order) ⊎ (pos 0 <ℤ neg_ℤ (side *ℤ rise at whole a b c d p))
-    decided = by (first_of coefficient order head)
-      where
-        by : IsFirstPositive (head ∷ map coefficient order) ⊎ (IsFirstPositive (neg_ℤ head ∷ map (λ k. neg_ℤ (coefficient k)) order) ⊎ ((k : ℕ) → Contains order k → coefficient k ≡ pos 0))
-            → IsFirstPositive (head ∷ map coefficient order) ⊎ (pos 0 <ℤ neg_ℤ (side *ℤ rise at whole a b c d p))
-        by (inl l) = inl l
-        by (inr (inl l)) = inr (trails_falls l)
-        by (inr (inr none)) = absurd (some_coefficient none)
+          out : (t z r : ℤ) → t *ℤ neg_ℤ z +ℤ neg_ℤ r ≡ neg_ℤ (t *ℤ z +ℤ r)
+          out t z r = ring (t ∷ z ∷ r ∷ []) (plus (times (var 0) (neg (var 1))) (neg (var 2))) (neg (plus (times (var 0) (var 1)) (var 2))) refl
 
-    pub lex_rises : IsLexAbove xs w order a b c d p → pos 0 <ℤ (det a b c d *ℤ rise at whole a b c d p)
-    lex_rises r =
-        let e = multipliers r.size r.l1 r.l2 r.l3 r.l4 r.mixture in
-        sign_out (det a b c d) (rise at whole a b c d p) independent
-        (leads_rises (subst (λ (zs : List ℤ). IsFirstPositive zs)
-        (λ t. four_factors (e.0 t) (e.1 t) (e.2 t) (e.3 t) (e.4 t) (height w p) (height w a) (height w b) (height w c) (height w d)
-        ∷ map (push_coefficient (e.0 t) (a, e.1 t) (b, e.2 t) (c, e.3 t) (d, e.4 t) p) order) r.above))
+          turned : (ks : List ℕ) → weighed volume_bound (λ k. neg_ℤ (coefficient k)) ks ≡ neg_ℤ (weighed volume_bound coefficient ks)
+          turned [] = refl
+          turned (k ∷ ks) = ap (λ z. pos (weight volume_bound ks) *ℤ neg_ℤ (coefficient k) +ℤ z) (turned ks) ∙ out (pos (weight volume_bound ks)) (coefficient k) (weighed volume_bound coefficient ks)
 
-    pub rises_lex : pos 0 <ℤ (det a b c d *ℤ rise at whole a b c d p) → IsLexAbove xs w order a b c d p
-    rises_lex l = ⊎_elim yes (λ f. absurd (no (side *ℤ rise at whole a b c d p) (sign_in (det a b c d) (rise at whole a b c d p) independent l) f)) decided
-      where
-        yes : IsFirstPositive (head ∷ map coefficient order) → IsLexAbove xs w order a b c d p
-        yes f = record { l1 = m1; l2 = m2; l3 = m3; l4 = m4; size = size0; mixture = mixture; above = f }
+      -- the coefficient of p itself is not 0
+      some_coefficient : ((k : ℕ) → Contains order k → coefficient k ≡ pos 0) → ⊥
+      some_coefficient none = no (det a b c d) independent (size_of_sign (det a b c d) ∙ sym (at_itself (p == p) refl) ∙ none p in_order)
+        where
+          at_itself : (t : Bool) → (p == p) ≡ t → coefficient p ≡ size0
+          at_itself true e = ap (λ s. cond s size0 (cond (p == a) (neg_ℤ m1) (cond (p == b) (neg_ℤ m2) (cond (p == c) (neg_ℤ m3) (cond (p == d) (neg_ℤ m4) (pos 0)))))) e
+          at_itself false e = absurd (other_from_test p p e refl)
 
-        no : (z : ℤ) → pos 0 <ℤ z → pos 0 <ℤ neg_ℤ z → ⊥
-        no z k m = absurd (omega (arith, ints, k, m))
+          no : (z : ℤ) → z ≢ pos 0 → pos (unsigned_abs z) ≡ pos 0 → ⊥
+          no z n e = absurd (let l = size_above z n in omega (arith, ints, l, e))
 
-    pub never_level : rise at whole a b c d p ≢ pos 0
-    never_level e = ⊎_elim (λ f. above (leads_rises f)) (λ f. below f) decided
-      where
-        level : side *ℤ rise at whole a b c d p ≡ pos 0
-        level = ap (λ z. side *ℤ z) e ∙ ring (side ∷ []) (times (var 0) (num (pos 0))) (num (pos 0)) refl
+      decided : IsFirstPositive (head ∷ map coefficient order) ⊎ (pos 0 <ℤ neg_ℤ (side *ℤ rise at whole a b c d p))
+      decided = by (first_of coefficient order head)
+        where
+          by : IsFirstPositive (head ∷ map coefficient order) ⊎ (IsFirstPositive (neg_ℤ head ∷ map (λ k. neg_ℤ (coefficient k)) order) ⊎ ((k : ℕ) → Contains order k → coefficient k ≡ pos 0))
+              → IsFirstPositive (head ∷ map coefficient order) ⊎ (pos 0 <ℤ neg_ℤ (side *ℤ rise at whole a b c d p))
+          by (inl l) = inl l
+          by (inr (inl l)) = inr (trails_falls l)
+          by (inr (inr none)) = absurd (some_coefficient none)
 
-        above : pos 0 <ℤ (side *ℤ rise at whole a b c d p) → ⊥
-        above k = by _ level k
-          where
-            by : (z : ℤ) → z ≡ pos 0 → pos 0 <ℤ z → ⊥
-            by z q m = absurd (omega (arith, ints, q, m))
+      pub lex_rises : IsLexAbove xs w order a b c d p → pos 0 <ℤ (det a b c d *ℤ rise at whole a b c d p)
+      lex_rises r = sign_out (det a b c d) (rise at whole a b c d p) independent (leads_rises (lex_leads r))
 
-        below : pos 0 <ℤ neg_ℤ (side *ℤ rise at whole a b c d p) → ⊥
-        below k = by _ level k
-          where
-            by : (z : ℤ) → z ≡ pos 0 → pos 0 <ℤ neg_ℤ z → ⊥
-            by z q m = absurd (omega (arith, ints, q, m))
+      rises_lead : pos 0 <ℤ (det a b c d *ℤ rise at whole a b c d p) → IsFirstPositive (head ∷ map coefficient order)
+      rises_lead l = ⊎_elim (λ f. f) (λ f. absurd (no (side *ℤ rise at whole a b c d p) (sign_in (det a b c d) (rise at whole a b c d p) independent l) f)) decided
+        where
+          no : (z : ℤ) → pos 0 <ℤ z → pos 0 <ℤ neg_ℤ z → ⊥
+          no z k m = absurd (omega (arith, ints, k, m))
+
+      pub rises_lex : pos 0 <ℤ (det a b c d *ℤ rise at whole a b c d p) → IsLexAbove xs w order a b c d p
+      rises_lex l = leads_lex (rises_lead l)
+
+      -- what rises at the heights themselves rises at the whole heights, and what rises there does not fall at the heights
+      pub rises_up : pos 0 <ℤ (det a b c d *ℤ rise at (height w) a b c d p) → pos 0 <ℤ (det a b c d *ℤ rise at whole a b c d p)
+      rises_up l =
+          sign_out (det a b c d) (rise at whole a b c d p) independent
+          (leads_rises (inl (subst (λ z. pos 0 <ℤ z) (sym (signed_rise (height w))) (sign_in (det a b c d) (rise at (height w) a b c d p) independent l))))
+
+      pub rises_least : pos 0 <ℤ (det a b c d *ℤ rise at whole a b c d p) → pos 0 ≤ℤ (det a b c d *ℤ rise at (height w) a b c d p)
+      rises_least l = sign_out_least (det a b c d) (rise at (height w) a b c d p) (subst (λ z. pos 0 ≤ℤ z) (signed_rise (height w)) (by head (rises_lead l)))
+        where
+          by : (z : ℤ) → IsFirstPositive (z ∷ map coefficient order) → pos 0 ≤ℤ z
+          by z (inl k) = not_negative z k
+          by z (inr (e, q)) = zero_not_negative z e
+
+      pub never_level : rise at whole a b c d p ≢ pos 0
+      never_level e = ⊎_elim (λ f. above (leads_rises f)) (λ f. below f) decided
+        where
+          level : side *ℤ rise at whole a b c d p ≡ pos 0
+          level = ap (λ z. side *ℤ z) e ∙ ring (side ∷ []) (times (var 0) (num (pos 0))) (num (pos 0)) refl
+
+          above : pos 0 <ℤ (side *ℤ rise at whole a b c d p) → ⊥
+          above k = by _ level k
+            where
+              by : (z : ℤ) → z ≡ pos 0 → pos 0 <ℤ z → ⊥
+              by z q m = absurd (omega (arith, ints, q, m))
+
+          below : pos 0 <ℤ neg_ℤ (side *ℤ rise at whole a b c d p) → ⊥
+          below k = by _ level k
+            where
+              by : (z : ℤ) → z ≡ pos 0 → pos 0 <ℤ neg_ℤ z → ⊥
+              by z q m = absurd (omega (arith, ints, q, m))

@@ -3,6 +3,6 @@ pub mod Facets
 pub mod Others
 pub mod Ridges
 pub mod Walks
-pub mod Outlines
+pub mod FaceCharts
 pub mod Gathered
 pub mod Frames

@@ -61,7 +61,7 @@ pub record IsCrossed (xs : List Point) (w : List ℤ) (order : List ℕ) (m : Ve
       (IsLowestTo xs w order m ridge without (length xs) None)
       (λ other. (p : ℕ) × IsLowestTo xs w order m ridge without (length xs) (Some p) × IsJoined ridge p other)
 
--- the same, with the ridge and what all mixtures of the four need
+-- the same, with the ridge and what all combinations of the four need
 abbrev pub IsCandidateTo : List Point → List ℤ → List ℕ → Vector → Ridge → ℕ → ℕ → Option Candidate → Type 0
 IsCandidateTo xs w order m r without n found =
     MatchOption found (IsLowestTo xs w order m r without n None) (λ c. IsLowestTo xs w order m r without n (Some c.point) × IsJoined r c.point c.four × IsFrame xs c.four c.frame)

@@ -11,8 +11,8 @@ ghost use Rattle.star_builder.specs.Frames.{IsFrame};
 ghost use Rattle.star_builder.specs.Fours.{AreRising, IsApart, AreIndependent};
 
 use crate::four::Four;
-use crate::frame::{Frame, Mixture};
-use crate::mixing::mix;
+use crate::frame::{Frame, Combination};
+use crate::combining::mix;
 use crate::ties::{is_above_down, is_above_up};
 use ntfe_model::{Point, Push};
 
@@ -25,9 +25,9 @@ fn height_of(heights: &[i64], number: u32) -> i128
     heights[number as usize - 1] as i128
 }
 
-/// How far a point lies above the plane over four others: its height times the size of the mixture, without the
-/// heights of the four, each times its share.
-fn rise(m: &Mixture, heights: &[i64], four: Four, p: u32) -> i128
+/// How far a point lies above the plane over four others: its height times the size of the combination, without the
+/// heights of the four, each times its coordinate.
+fn rise(m: &Combination, heights: &[i64], four: Four, p: u32) -> i128
     requires within { AreWithin (2 ^ 48) (m.now.size ∷ m.now.first ∷ m.now.second ∷ m.now.third ∷ m.now.fourth ∷ []) }
     requires first { IsNumberOf heights.now four.a }
     requires second { IsNumberOf heights.now four.b }

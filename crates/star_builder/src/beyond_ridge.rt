@@ -9,7 +9,7 @@ ghost use Rattle.star_builder.specs.Fours.{AreRising};
 
 use crate::crossing::cross;
 use crate::four::Four;
-use crate::mixing::place;
+use crate::combining::place;
 use ntfe_model::{Geometry, Heights, Point, Push, Vec4, tight_bits};
 
 /// The place of a facet that has the four points.

@@ -1,7 +1,7 @@
-//! Four points, and a point as a mixture of them.
+//! The frame of four points, and a point as an affine combination of the four and the origin.
 
-/// What all mixtures of four points need: the size of their determinant, and for each of the four the normal whose
-/// product with a point is its share.
+/// What all combinations of four points need: the size of their determinant, and for each of the four the normal whose
+/// product with a point is its barycentric coordinate, times the size.
 #[derive(Clone, Copy, Drop)]
 pub struct Frame {
     pub size: i64,
@@ -11,9 +11,9 @@ pub struct Frame {
     pub fourth: [i64; 4],
 }
 
-/// How a point is mixed: size times it is the sum of the four points, each times its share.
+/// A point by its barycentric coordinates: size times it is the sum of the four points, each times its coordinate.
 #[derive(Clone, Copy, Drop)]
-pub struct Mixture {
+pub struct Combination {
     pub size: i128,
     pub first: i128,
     pub second: i128,

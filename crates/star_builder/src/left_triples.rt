@@ -2,23 +2,23 @@
 ghost use Rattle.std.specs.Prelude.{◌≡◌, OnOk, Contains};
 ghost use Rattle.ntfe_model.specs.Stars.{AreTogether};
 ghost use Rattle.star_builder.specs.Gathered.{Gathers};
-ghost use Rattle.star_builder.specs.Outlines.{patch, AreLeft};
+ghost use Rattle.star_builder.specs.FaceCharts.{patch, AreLeft};
 
-use crate::outline::Outline;
+use crate::face_chart::FaceChart;
 use std::alloc::AllocError;
 
 /// Adds the triples with these first two points and a third of the simplex.
 fn gather_third(
-    outline: &Outline,
+    chart: &FaceChart,
     simplex: &[u32; 4],
     a: u32,
     b: u32,
     triples: &mut Vec<[u32; 3]>,
 ) -> Result<(), AllocError>
-    ensures { OnOk result (Gathers (λ i j k. (i ≡ a) × (j ≡ b) × Contains simplex.now k × AreLeft (patch outline.now.numbers.now outline.now.points.now) i j k) triples.old.items triples.new.items) }
+    ensures { OnOk result (Gathers (λ i j k. (i ≡ a) × (j ≡ b) × Contains simplex.now k × AreLeft (patch chart.now.numbers.now chart.now.points.now) i j k) triples.old.items triples.new.items) }
 {
     for c in simplex {
-        if outline.is_left(a, b, *c) {
+        if chart.is_left(a, b, *c) {
             triples.push([a, b, *c])?;
         }
     }
@@ -27,30 +27,30 @@ fn gather_third(
 
 /// Adds the triples with this first point and two others of the simplex.
 fn gather_second(
-    outline: &Outline,
+    chart: &FaceChart,
     simplex: &[u32; 4],
     a: u32,
     triples: &mut Vec<[u32; 3]>,
 ) -> Result<(), AllocError>
-    ensures { OnOk result (Gathers (λ i j k. (i ≡ a) × Contains simplex.now j × Contains simplex.now k × AreLeft (patch outline.now.numbers.now outline.now.points.now) i j k) triples.old.items triples.new.items) }
+    ensures { OnOk result (Gathers (λ i j k. (i ≡ a) × Contains simplex.now j × Contains simplex.now k × AreLeft (patch chart.now.numbers.now chart.now.points.now) i j k) triples.old.items triples.new.items) }
 {
     for b in simplex {
-        gather_third(outline, simplex, a, *b, triples)?;
+        gather_third(chart, simplex, a, *b, triples)?;
     }
     Ok(())
 }
 
 /// Adds the triples of points of the simplex.
 fn gather_first(
-    outline: &Outline,
+    chart: &FaceChart,
     simplex: &[u32; 4],
     triples: &mut Vec<[u32; 3]>,
 ) -> Result<(), AllocError>
-    ensures { OnOk result (Gathers (λ i j k. Contains simplex.now i × Contains simplex.now j × Contains simplex.now k × AreLeft (patch outline.now.numbers.now outline.now.points.now) i j k) triples.old.items triples.new.items) }
+    ensures { OnOk result (Gathers (λ i j k. Contains simplex.now i × Contains simplex.now j × Contains simplex.now k × AreLeft (patch chart.now.numbers.now chart.now.points.now) i j k) triples.old.items triples.new.items) }
 {
     for a in simplex {
-        if outline.has(*a) {
-            gather_second(outline, simplex, *a, triples)?;
+        if chart.has(*a) {
+            gather_second(chart, simplex, *a, triples)?;
         }
     }
     Ok(())
@@ -58,14 +58,14 @@ fn gather_first(
 
 /// Adds the triples of points that stand together in a simplex of the star.
 pub fn gather_all(
-    outline: &Outline,
+    chart: &FaceChart,
     star: &[[u32; 4]],
     triples: &mut Vec<[u32; 3]>,
 ) -> Result<(), AllocError>
-    ensures { OnOk result (Gathers (λ i j k. AreTogether star.now i j k × AreLeft (patch outline.now.numbers.now outline.now.points.now) i j k) triples.old.items triples.new.items) }
+    ensures { OnOk result (Gathers (λ i j k. AreTogether star.now i j k × AreLeft (patch chart.now.numbers.now chart.now.points.now) i j k) triples.old.items triples.new.items) }
 {
     for simplex in star {
-        gather_first(outline, simplex, triples)?;
+        gather_first(chart, simplex, triples)?;
     }
     Ok(())
 }

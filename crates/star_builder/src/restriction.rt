@@ -5,7 +5,7 @@ ghost use Rattle.ntfe_model.specs.Stars.{IsRestriction};
 ghost use Rattle.star_builder.specs.Gathered.{triangle_of};
 
 use crate::left_triples::gather_all;
-use crate::outline::Outline;
+use crate::face_chart::FaceChart;
 use crate::star::Star;
 use ntfe_model::{Geometry, List, Triangle};
 use std::alloc::{AllocError, Global};
@@ -39,9 +39,9 @@ pub fn restrict(
     ensures restriction { IfOk result (λ ts. IsRestriction (patch_at geometry.now face) star.now.simplices ts) }
 {
     let numbers = geometry.faces()[face as usize].points.as_slice();
-    let outline = Outline::new(geometry.points(), numbers);
+    let chart = FaceChart::new(geometry.points(), numbers);
     let mut triples = Vec::new(alloc);
-    gather_all(&outline, star.simplices.as_slice(), &mut triples)?;
+    gather_all(&chart, star.simplices.as_slice(), &mut triples)?;
     triples.sort_unstable();
     triples.dedup();
     let triangles = triangles_of(alloc, triples.as_slice())?;

@@ -12,7 +12,7 @@ ghost use Rattle.star_builder.specs.Others.{IsOther, AreOthersAbove};
 
 use crate::above::is_lex_above;
 use crate::four::Four;
-use crate::mixing::{determinant, frame_of, place};
+use crate::combining::{determinant, frame_of, place};
 use ntfe_model::{Point, Push, Vec4, is_tight};
 
 /// The points and heights of a star, with the facets through each point as bits.

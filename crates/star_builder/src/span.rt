@@ -5,9 +5,9 @@ ghost use Rattle.ntfe_model.specs.Pairs.{IsSmall};
 ghost use Rattle.ntfe_model.specs.Points.{place_of_point};
 ghost use Rattle.ntfe_model.specs.Charts.{axes, spans as spans_patch};
 ghost use Rattle.ntfe_model.specs.Flats.{AreAxes, flat_of, IsSmallFlat, area_of_flats};
-ghost use Rattle.star_builder.specs.Outlines.{patch, AreKnown};
+ghost use Rattle.star_builder.specs.FaceCharts.{patch, AreKnown};
 
-use crate::mixing::place;
+use crate::combining::place;
 use ntfe_model::{Flat, Point, flat_area, flatten};
 
 /// Whether some point of the list has an area with the two points.

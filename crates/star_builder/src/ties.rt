@@ -6,9 +6,9 @@ ghost use Rattle.ntfe_model.specs.declared.nogood.Push.TheVariants.{Up, Down};
 ghost use Rattle.star_builder.specs.Fours.{IsApart};
 
 use crate::four::Four;
-use crate::frame::Mixture;
+use crate::frame::Combination;
 
-/// Whether a point that is pushed before the mixed one takes part in the mixture.
+/// Whether a point that is pushed before the mixed one takes part in the combination.
 fn decides(is_before: bool, share: &i128) -> bool
     requires small { unsigned_abs share.now ≤ 2 ^ 48 }
     ensures when_true { result ≡ true → (is_before ≡ true) × (share.now ≢ pos 0) }
@@ -18,8 +18,8 @@ fn decides(is_before: bool, share: &i128) -> bool
 }
 
 /// Whether a point is above four others that its height does not tell it from, where lesser numbers are pushed
-/// first: the first of the five that takes part in the mixture decides.
-pub fn is_above_up(m: &Mixture, four: Four, p: u32) -> bool
+/// first: the first of the five that takes part in the combination decides.
+pub fn is_above_up(m: &Combination, four: Four, p: u32) -> bool
     requires within { AreWithin (2 ^ 48) (m.now.size ∷ m.now.first ∷ m.now.second ∷ m.now.third ∷ m.now.fourth ∷ []) }
     requires size { pos 0 <ℤ m.now.size }
     requires apart { IsApart four p }
@@ -42,7 +42,7 @@ pub fn is_above_up(m: &Mixture, four: Four, p: u32) -> bool
 }
 
 /// The same where greater numbers are pushed first.
-pub fn is_above_down(m: &Mixture, four: Four, p: u32) -> bool
+pub fn is_above_down(m: &Combination, four: Four, p: u32) -> bool
     requires within { AreWithin (2 ^ 48) (m.now.size ∷ m.now.first ∷ m.now.second ∷ m.now.third ∷ m.now.fourth ∷ []) }
     requires size { pos 0 <ℤ m.now.size }
     requires apart { IsApart four p }

@@ -1,7 +1,7 @@
 use Rattle.std.proofs.Common.{◌≡◌, ◌∙◌, ℕ, List, get_or, refl, ap, sym, subst, arith}
 use Rattle.std.specs.Prelude.{Contains}
 use Rattle.star_builder.specs.Gathered.{Gathers}
-use Rattle.star_builder.specs.Outlines.{patch, AreLeft}
+use Rattle.star_builder.specs.FaceCharts.{patch, AreLeft}
 use Rattle.star_builder.proofs.GatherLemmas.{gathers_none, gathers_one, gathers_next, gathers_end}
 use Rattle.star_builder.proofs.left_triples.gather_third.Goals as goal
 use Rattle.star_builder.proofs.left_triples.gather_third.Goals.{then-is_left+in_ok-push, else-is_left}
@@ -12,7 +12,7 @@ loop-c-preserved c =
     let n = c.loop-c.c-index in
     let x = get_or s n 0 in
     let old = c.loop-c.triples.items in
-    let Left : ℕ → ℕ → ℕ → Type 0 = AreLeft (patch c.args.outline.now.numbers.now c.args.outline.now.points.now) in
+    let Left : ℕ → ℕ → ℕ → Type 0 = AreLeft (patch c.args.chart.now.numbers.now c.args.chart.now.points.now) in
     let P : ℕ → ℕ → ℕ → ℕ → Type 0 = λ y i j k. (i ≡ c.args.a) × (j ≡ c.args.b) × (k ≡ y) × Left i j k in
     let kept : Gathers (P x) old c.if-is_left.triples.items = elim c.if-is_left.branch [
       | then-is_left+in_ok-push w ↦
@@ -28,7 +28,7 @@ loop-c-preserved c =
 pub returns : goal.returns
 returns c =
     let s = c.args.simplex.now in
-    let Left : ℕ → ℕ → ℕ → Type 0 = AreLeft (patch c.args.outline.now.numbers.now c.args.outline.now.points.now) in
+    let Left : ℕ → ℕ → ℕ → Type 0 = AreLeft (patch c.args.chart.now.numbers.now c.args.chart.now.points.now) in
     let P : ℕ → ℕ → ℕ → ℕ → Type 0 = λ y i j k. (i ≡ c.args.a) × (j ≡ c.args.b) × (k ≡ y) × Left i j k in
     gathers_end s P c.loop-c.c-index (λ i j k. (i ≡ c.args.a) × (j ≡ c.args.b) × Contains s k × Left i j k) c.args.triples.now.items c.loop-c.triples.items
     (let t = c.loop-c-test.false in omega arith)

@@ -8,12 +8,12 @@ use Rattle.ntfe_model.specs.declared.point.Point.{Point}
 use Rattle.ntfe_model.specs.declared.triangle.Triangle.{Triangle}
 use Rattle.ntfe_model.proofs.GeometryPoints.{numbers_within}
 use Rattle.star_builder.specs.Gathered.{Gathers, triangle_of}
-use Rattle.star_builder.specs.Outlines.{patch, AreKnown, AreLeft}
+use Rattle.star_builder.specs.FaceCharts.{patch, AreKnown, AreLeft}
 use Rattle.star_builder.proofs.RestrictLemmas.{restriction_listed}
 use Rattle.star_builder.proofs.restriction.restrict.Goals as goal
 
-pub new-outline-requires-clause-known : goal.new-outline-requires-clause-known
-new-outline-requires-clause-known c =
+pub new-chart-requires-clause-known : goal.new-chart-requires-clause-known
+new-chart-requires-clause-known c =
     let g = c.args.geometry.now in
     let same : c.as_slice-numbers.result.now ≡ (face_at g c.args.face).points =
     c.as_slice-numbers.ensures ∙ ap (λ f. f.points) (ap (λ fs. get_or fs c.args.face c.index-faces-face.result) c.faces.ensures.value ∙ get_or_default g.faces c.args.face c.index-faces-face.result no_face c.requires.face) in
@@ -25,8 +25,8 @@ returns c =
     let same : c.as_slice-numbers.result.now ≡ (face_at g c.args.face).points =
     c.as_slice-numbers.ensures ∙ ap (λ f. f.points) (ap (λ fs. get_or fs c.args.face c.index-faces-face.result) c.faces.ensures.value ∙ get_or_default g.faces c.args.face c.index-faces-face.result no_face c.requires.face) in
     let h : Patch = patch_at g c.args.face in
-    let same_patch : patch c.new-outline.result.numbers.now c.new-outline.result.points.now ≡ h =
-    λ i. patch ((c.new-outline.ensures.numbers ∙ same) i) ((c.new-outline.ensures.points ∙ c.points.ensures.value) i) in
+    let same_patch : patch c.new-chart.result.numbers.now c.new-chart.result.points.now ≡ h =
+    λ i. patch ((c.new-chart.ensures.numbers ∙ same) i) ((c.new-chart.ensures.points ∙ c.points.ensures.value) i) in
     let star = c.args.star.now.simplices in
     let gathered = c.gather_all.new.triples.items in
     let all : Gathers (λ i j k. AreTogether star i j k × AreLeft h i j k) [] gathered =

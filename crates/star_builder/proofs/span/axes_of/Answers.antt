@@ -1,6 +1,6 @@
 use Rattle.std.proofs.Common.{◌∙◌, sym, refl, true, false}
-use Rattle.star_builder.specs.Outlines.{patch}
-use Rattle.star_builder.proofs.SpanLemmas.{axes_are}
+use Rattle.star_builder.specs.FaceCharts.{patch}
+use Rattle.ntfe_model.proofs.AxesLemmas.{axes_are}
 use Rattle.star_builder.proofs.span.axes_of.Goals as goal
 
 pub returns-then-spans-clause-value : goal.returns-then-spans-clause-value
