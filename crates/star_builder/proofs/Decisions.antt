@@ -1,7 +1,6 @@
 -- Decisions over signs, and over the numbers below a bound.
-use Rattle.std.proofs.Common.{◌≡◌, ◌≢◌, negsuc, ℕ, zero, suc, ◌<◌, ◌≤◌, ◌⊎◌, inl, inr, ⊎_elim, refl, sym, subst, arith, ℤ, pos, ◌<ℤ◌, neg_ℤ, List, [], ◌∷◌}
+use Rattle.std.proofs.Common.{◌≡◌, ◌≢◌, negsuc, ℕ, zero, suc, ◌<◌, ◌≤◌, ◌⊎◌, inl, inr, ⊎_elim, refl, sym, subst, arith, ℤ, pos, ◌<ℤ◌, neg_ℤ}
 use Rattle.std.proofs.lemmas.Int.{ints}
-
 use Rattle.ntfe_model.proofs.Triples.{Decided}
 
 pub three_signs : (z : ℤ) → (pos 0 <ℤ z) ⊎ ((z ≡ pos 0) ⊎ (pos 0 <ℤ neg_ℤ z))

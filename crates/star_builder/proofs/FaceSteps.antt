@@ -4,8 +4,8 @@
 --     some_left      some point lies to the left of a step
 --     step_triple      a lower triple at a step
 --     lower_step      a side of a lower triple without one on the other side is a step
-use Rattle.std.proofs.Common.{◌≡◌, ◌≢◌, ℕ, zero, suc, ◌+◌, ◌-◌, ◌<◌, ⊎_elim, refl, sym, ap, ◌∙◌, subst, arith, ℤ, pos, negsuc, ◌+ℤ◌, ◌-ℤ◌, ◌*ℤ◌, ◌<ℤ◌, ◌≤ℤ◌, neg_ℤ, List, [], ◌∷◌, length}
-use Rattle.std.specs.Prelude.{Contains, slice_index_or}
+use Rattle.std.proofs.Common.{◌≡◌, ◌≢◌, ℕ, zero, suc, ◌+◌, ◌-◌, ◌<◌, ⊎_elim, refl, sym, ap, ◌∙◌, subst, arith, ℤ, pos, negsuc, ◌+ℤ◌, ◌-ℤ◌, ◌*ℤ◌, ◌<ℤ◌, ◌≤ℤ◌, neg_ℤ, [], ◌∷◌, length}
+use Rattle.std.specs.Prelude.{slice_index_or}
 use Rattle.std.proofs.lemmas.Int.{ints}
 use Rattle.ntfe_nums.specs.Vectors.{Vector, numbers, coordinate, vector_sum, multiple, sign}
 use Rattle.ntfe_nums.proofs.Ring.{ring, one_product}
@@ -15,7 +15,7 @@ use Rattle.ntfe_model.specs.Shapes.{Shape, IsShape}
 use Rattle.ntfe_model.specs.Charts.{patch_at, place, turn, spot_numbers, IsOf, IsOnSegment, IsStep}
 use Rattle.ntfe_model.proofs.GeometryPoints.{point_within, point_place}
 use Rattle.ntfe_model.proofs.PlaneNumbers.{cancel_other, sign_negative}
-use Rattle.ntfe_model.proofs.Triples.{Decided, decide_listed}
+use Rattle.ntfe_model.proofs.Triples.{decide_listed}
 use Rattle.ntfe_model.proofs.UnitTriples.{area_of}
 use Rattle.star_builder.proofs.FourWeights.{IsMixOf, mixed_sum}
 use Rattle.star_builder.proofs.EmptyTriples.{empty_triple}

@@ -12,7 +12,6 @@ use Rattle.ntfe_model.specs.Lists.{IsNumberOf}
 use Rattle.ntfe_model.specs.Pairs.{entry}
 use Rattle.ntfe_model.specs.Charts.{Patch, axes, spans}
 use Rattle.ntfe_model.specs.Reflexive.{IsTight, HasNoRepeat, at}
-use Rattle.ntfe_model.proofs.Triples.{Decided, decide_integer}
 
 -- ---- whole numbers
 

@@ -10,9 +10,9 @@ ghost use Rattle.ntfe_model.specs.Stars.{IsLexAbove, order_of};
 ghost use Rattle.star_builder.specs.Frames.{IsFrame};
 ghost use Rattle.star_builder.specs.Fours.{AreRising, IsApart, AreIndependent};
 
-use crate::four::Four;
-use crate::frame::{Frame, Combination};
 use crate::combining::mix;
+use crate::four::Four;
+use crate::frame::{Combination, Frame};
 use crate::ties::{is_above_down, is_above_up};
 use ntfe_model::{Point, Push};
 

@@ -7,9 +7,9 @@ ghost use Rattle.ntfe_model.specs.Stars.{IsMember, IsBeyond, IsOuterRidge, order
 ghost use Rattle.ntfe_model.specs.TightBits.{IsFacetOf};
 ghost use Rattle.star_builder.specs.Fours.{AreRising};
 
+use crate::combining::place;
 use crate::crossing::cross;
 use crate::four::Four;
-use crate::combining::place;
 use ntfe_model::{Geometry, Heights, Point, Push, Vec4, tight_bits};
 
 /// The place of a facet that has the four points.

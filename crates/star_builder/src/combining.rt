@@ -11,7 +11,7 @@ ghost use Rattle.star_builder.specs.Fours.{AreRising};
 ghost use Rattle.star_builder.specs.Frames.{IsFrame};
 
 use crate::four::Four;
-use crate::frame::{Frame, Combination};
+use crate::frame::{Combination, Frame};
 use ntfe_model::{Point, Vec4};
 use ntfe_nums::{short_normal, short_product};
 

@@ -14,8 +14,8 @@ ghost use Rattle.star_builder.specs.Ridges.{IsAcross, IsJoined, IsLowestTo, IsCa
 
 use crate::above::is_lex_above;
 use crate::candidate::Candidate;
-use crate::four::Four;
 use crate::combining::{frame_of, normal, place, product};
+use crate::four::Four;
 use crate::ridge::{Ridge, join, ridge_of};
 use ntfe_model::{Point, Push, Vec4, is_tight};
 

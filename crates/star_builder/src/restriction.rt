@@ -4,8 +4,8 @@ ghost use Rattle.ntfe_model.specs.Charts.{patch_at};
 ghost use Rattle.ntfe_model.specs.Stars.{IsRestriction};
 ghost use Rattle.star_builder.specs.Gathered.{triangle_of};
 
-use crate::left_triples::gather_all;
 use crate::face_chart::FaceChart;
+use crate::left_triples::gather_all;
 use crate::star::Star;
 use ntfe_model::{Geometry, List, Triangle};
 use std::alloc::{AllocError, Global};

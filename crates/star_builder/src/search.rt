@@ -11,8 +11,8 @@ ghost use Rattle.star_builder.specs.Fours.{AreRising, AreIndependent, members_of
 ghost use Rattle.star_builder.specs.Others.{IsOther, AreOthersAbove};
 
 use crate::above::is_lex_above;
-use crate::four::Four;
 use crate::combining::{determinant, frame_of, place};
+use crate::four::Four;
 use ntfe_model::{Point, Push, Vec4, is_tight};
 
 /// The points and heights of a star, with the facets through each point as bits.
