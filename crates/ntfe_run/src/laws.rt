@@ -1,10 +1,17 @@
-//! What the fine regular star triangulations of a geometry leave on its two-faces.
+//! Laws: what fine regular star triangulations leave on two-faces, and what the texts of runs show.
 ghost use Rattle.std.specs.Prelude.{◌<◌, ℕ, List, length};
 ghost use Rattle.ntfe_model.specs.Shapes.{Shape, IsShape};
 ghost use Rattle.ntfe_model.specs.Charts.{patch_at};
 ghost use Rattle.ntfe_model.specs.Words.{IsItem};
 ghost use Rattle.ntfe_model.specs.Stars.{IsFrst, Leaves};
 ghost use Rattle.ntfe_model.specs.declared.triangulation.Triangulation.{Triangulation};
+
+mod texts;
+
+pub use texts::{
+    done_shows_each_class, resumed_text_is_whole, run_text_exists, stopped_texts_begin_whole_ones,
+    texts_show_each_choice,
+};
 
 /// A law: a fine regular star triangulation leaves an item on each two-face, so it induces a choice.
 /// The triples that it leaves are a fine triangulation of the two-face (De Loera, Rambau and Santos,

@@ -14,15 +14,13 @@ mod pieces;
 mod reading;
 mod status;
 mod tasks;
-mod text_laws;
 mod top;
 
-pub use laws::restriction_is_item;
-pub use status::{Refusal, Status};
-pub use text_laws::{
-    done_shows_each_class, resumed_text_is_whole, run_text_exists, stopped_texts_begin_whole_ones,
-    texts_show_each_choice,
+pub use laws::{
+    done_shows_each_class, restriction_is_item, resumed_text_is_whole, run_text_exists,
+    stopped_texts_begin_whole_ones, texts_show_each_choice,
 };
+pub use status::{Refusal, Status};
 pub use top::{run, run_alone};
 
 #[cfg(test)]

@@ -1,5 +1,5 @@
 use Rattle.ntfe_run.proofs.AllBlocks.{blocks_listed, text_exists, text_fixed}
-use Rattle.ntfe_run.proofs.text_laws.run_text_exists.Goals as goal
+use Rattle.ntfe_run.proofs.laws.texts.run_text_exists.Goals as goal
 
 pub returns : goal.returns
 returns c = record {

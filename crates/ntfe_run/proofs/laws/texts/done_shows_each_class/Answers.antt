@@ -1,5 +1,5 @@
 use Rattle.ntfe_run.proofs.DoneShows.{classes_show, resume_shows}
-use Rattle.ntfe_run.proofs.text_laws.done_shows_each_class.Goals as goal
+use Rattle.ntfe_run.proofs.laws.texts.done_shows_each_class.Goals as goal
 
 pub returns : goal.returns
 returns c = record {

@@ -1,5 +1,5 @@
 use Rattle.ntfe_run.proofs.Beginnings.{list_text_is, stopped_begins}
-use Rattle.ntfe_run.proofs.text_laws.stopped_texts_begin_whole_ones.Goals as goal
+use Rattle.ntfe_run.proofs.laws.texts.stopped_texts_begin_whole_ones.Goals as goal
 
 pub returns : goal.returns
 returns c = record {
