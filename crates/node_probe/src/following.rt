@@ -8,8 +8,8 @@ ghost use Rattle.node_probe.specs.Followed.{IsJudgement};
 
 use crate::assembling::certificate;
 use crate::finding::Finding;
-use crate::head::HeadRows;
 use crate::fold_cache::FoldCache;
+use crate::head::HeadRows;
 use crate::solving::judge_head;
 use crate::stems::Stems;
 use ntfe_model::{Geometry, Heights, Key, List};

@@ -4,15 +4,15 @@
 mod assembling;
 mod fetching;
 mod finding;
+mod fold_cache;
 mod following;
 mod head;
 mod heights;
 mod probing;
-mod fold_cache;
 mod solving;
 mod stems;
 
 pub use finding::Finding;
-pub use probing::{probe, probe_following, probe_cached};
 pub use fold_cache::FoldCache;
+pub use probing::{probe, probe_cached, probe_following};
 pub use stems::Stems;

@@ -12,8 +12,8 @@ ghost use Rattle.node_probe.specs.Followed.{IsFoundTrue};
 
 use crate::fetching::fetch_head;
 use crate::finding::Finding;
-use crate::following::judge_following;
 use crate::fold_cache::FoldCache;
+use crate::following::judge_following;
 use crate::solving::judge_head;
 use crate::stems::Stems;
 use nogood_set::NogoodSet;

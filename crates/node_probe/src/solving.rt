@@ -8,8 +8,8 @@ ghost use Rattle.node_probe.specs.declared.finding.Finding.TheVariants.{Descend}
 
 use crate::assembling::certificate;
 use crate::finding::Finding;
-use crate::head::HeadRows;
 use crate::fold_cache::FoldCache;
+use crate::head::HeadRows;
 use ntfe_model::{Geometry, Heights, Key, List};
 use std::alloc::{AllocError, Global};
 use strict_solver::{Solved, Tableau};

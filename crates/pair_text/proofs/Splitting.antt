@@ -78,7 +78,7 @@ parts-none p (x ∷ xs) =
       | inr e ↦ rw e (λ h. absurd (omega (arith, rw e at h)))
     ]
 
-is_filled-from : (xs : List ℕ) → 0 < length xs → is_filled xs ≡ true
+pub is_filled-from : (xs : List ℕ) → 0 < length xs → is_filled xs ≡ true
 is_filled-from [] h = absurd (omega arith)
 is_filled-from (x ∷ xs) h = ap not (ne_eqb (length (x ∷ xs)) 0 (omega arith))
 
